@@ -1,5 +1,5 @@
 -- Why an append has no room.
-use Rattle.std.proofs.Common.{ℕ, ◌≡◌, ◌≤◌, ◌<◌, ◌-◌, ◌^◌, ◌⊎◌, inl, inr, List, length, Bool, true, false, Result, Ok, Err, refl, subst, sym}
+use Rattle.std.proofs.Common.{ℕ, ◌≡◌, ◌∙◌, ◌≤◌, ◌<◌, ◌-◌, ◌^◌, ◌⊎◌, inl, inr, List, length, Bool, true, false, Result, Ok, Err, refl, subst, sym}
 use Rattle.std.specs.Prelude.{◌↔◌, OnErr, OnOk}
 use Rattle.std.proofs.lemmas.Bool.{cases_lt}
 use Rattle.buffer_book.specs.Books.{Book, RefusesAppend}
@@ -77,3 +77,11 @@ pub room_made : {A T : Type 0} (takes : Takes A) (limits : Limits) (state : Stat
     → OnOk answer (HasRoom takes limits state tag entries)
 room_made takes limits state tag entries (Ok _) may full = inr (may.0, full, may.1)
 room_made takes limits state tag entries (Err _) may full = tt
+
+-- and where it can't, it hasn't
+pub room_missing : {A T : Type 0} (takes : Takes A) (limits : Limits) (state : State) (tag : List ℕ) (entries : List (List ℕ)) (answer : Result T BufferFault)
+    → OnErr answer ((answer ≡ Err Full) × ((takes.drops ≡ true) → FitsBesideUnqueued limits state entries → ⊥)) → planned limits state tag entries ≡ Err plan.Full
+    → answer ≡ Err Full → HasRoom takes limits state tag entries → ⊥
+room_missing takes limits state tag entries (Ok _) may full is room = absurd (cc is)
+room_missing takes limits state tag entries (Err _) may full is (inl (place, placed)) = absurd (cc (sym full ∙ placed))
+room_missing takes limits state tag entries (Err _) may full is (inr (drops, _, fits)) = may.1 drops fits

@@ -1,3 +1,4 @@
+pub mod Each
 pub mod Held
 pub mod Redeem
 pub mod Steady

@@ -1,6 +1,6 @@
 -- What an append answers at each of its ends.
 use Rattle.std.proofs.Common.{◌≡◌, ◌≢◌, ◌⊎◌, ⊎_elim, inl, inr, ◌↔◌, ℕ, ◌+◌, ◌-◌, ◌^◌, ◌<◌, ◌≤◌, Bool, true, false, cond, List, length, Option, Some, None, refl, sym, ap, subst, ◌∙◌, arith}
-use Rattle.std.specs.Prelude.{Result, Ok, Err, OnErr, All, IfSome, is_err, slice_get}
+use Rattle.std.specs.Prelude.{Result, Ok, Err, OnErr, All, IfSome, is_err, is_some, if◌then◌else◌, slice_get}
 use Rattle.std.specs.Result.{IsErrAnd}
 use Rattle.std.specs.Ordering.{nat_cmp}
 use Rattle.std.specs.BTreeMap.{is_at}
@@ -9,15 +9,18 @@ use Rattle.std.proofs.lemmas.Option.{slice_get_within}
 use Rattle.std.proofs.lemmas.Result.{err_from_is_err_and}
 use Rattle.book_audit.specs.Audits.{Pages, SameLines, Writes, open_at}
 use Rattle.book_audit.specs.declared.line.Line.{Line}
-use Rattle.buffer_state.proofs.Serials.{at_same}
+use Rattle.buffer_state.proofs.Serials.{at_itself, at_same}
+use Rattle.buffer_state.specs.State.{State}
+use Rattle.buffer_state.specs.Steps.{planned}
 use Rattle.buffer_store.specs.Buffers.{Held}
 use Rattle.buffer_store.specs.Calls.{Flags}
 use Rattle.buffer_store.specs.Refusals.{of_plan}
 use Rattle.buffer_store.specs.declared.fault.BufferFault.{BufferFault}
 use Rattle.buffer_store.specs.declared.fault.BufferFault.TheVariants as fault
 use Rattle.buffer_book.specs.declared.past.Written.{Written}
-use Rattle.buffer_book.specs.Books.{Book, IsSound, RefusesAppend, Steady, Unchanged, book_of, waiting_at}
-use Rattle.buffer_book.proofs.Answered.{err_of}
+use Rattle.event_modes.specs.Message.{longest_tag}
+use Rattle.buffer_book.specs.Books.{Book, IsAccounted, IsSound, RefusesAppend, Steady, Unchanged, book_of, waiting_at}
+use Rattle.buffer_book.proofs.Answered.{err_of, some_long}
 use Rattle.buffer_book.proofs.Sound.{pages_same}
 
 -- what a `?` answers
@@ -64,6 +67,15 @@ module _ {D T U : Type 0} (tag : List ℕ) (entries : List (List ℕ)) (b : Book
     refused = λ going short f at. absurd (let q = h.refused going short f at in cc q);
     accepted = λ going short n at. tt;
   }
+
+-- what has its place in a plan isn't refused
+pub refuses_not : {D : Type 0} (tag : List ℕ) (entries : List (List ℕ)) (b now : Book D) (serial : ℕ) → b ≡ now → length tag ≤ longest_tag → planned b.buffer.limits b.buffer.chunks tag entries ≡ Ok serial
+    → RefusesAppend {T = ℕ} tag entries now (Ok serial)
+refuses_not {D} tag entries b now serial there short at = subst (λ (k : Book D). RefusesAppend {T = ℕ} tag entries k (Ok serial)) there (record {
+  long = λ going long. absurd (let z = long in omega (arith, short));
+  refused = λ going fits f is. absurd (let q = sym at ∙ is in cc q);
+  accepted = λ going fits n is. tt;
+})
 
 -- ---- the buffer
 
@@ -145,6 +157,32 @@ gone_again w v u k x put out none n = by (is_at (nat_cmp k) n) refl
     by : (t : Bool) → is_at (nat_cmp k) n ≡ t → waiting_at u n ≡ waiting_at w n
     by true e = out n ∙ ap (λ (t : Bool). cond t None (waiting_at v n)) e ∙ sym (subst (λ (m : ℕ). waiting_at w m ≡ None) (at_same k n e) none)
     by false e = out n ∙ ap (λ (t : Bool). cond t None (waiting_at v n)) e ∙ put n ∙ ap (λ (t : Bool). cond t (Some x) (waiting_at w n)) e
+
+-- so the book stays sound, with more room for its lines
+pub sound_again : {D : Type 0} (b : Held D) (f : List (ℕ × ℕ)) (a : List Line) (l : List Written) (p : Pages) (w : List (ℕ × Line)) (s : ℕ) (r : List ℕ) → IsSound (book_of b f a l p w s r)
+    → (c : Held D) (q : Pages) (v u : List (ℕ × Line)) (k : ℕ) (x : Line) (out : Option Line) → c.chunks ≡ b.chunks → SameLines p q → p.room ≤ q.room → k ≡ length a
+    → ((n : ℕ) → waiting_at v n ≡ cond (is_at (nat_cmp k) n) (Some x) (waiting_at w n)) → length v ≤ length w + 1
+    → out ≡ waiting_at v k → ((n : ℕ) → waiting_at u n ≡ cond (is_at (nat_cmp k) n) None (waiting_at v n)) → length u + (if is_some out then 1 else 0) ≡ length v
+    → IsSound (book_of c f a l q u s r)
+sound_again b f a l p w s r h c q v u k x out chunks same kept is put long found gone len = record {
+  accounted = subst (λ (z : State). IsAccounted z f a r) (sym chunks) h.accounted;
+  receipted = h.receipted;
+  on_pages = pages_same p q l same h.on_pages;
+  waits = record {
+    each = λ n. subst (λ (o : Option Line). IfSome o (λ append. (slice_get a n ≡ Some append) × All (λ (written : Written). written.place ≢ n) l)) (sym (as_before n)) (h.waits.each n);
+    room = omega (arith, h.waits.room, kept, short);
+    few = omega (arith, h.waits.few, short);
+  };
+}
+  where
+    as_before : (n : ℕ) → waiting_at u n ≡ waiting_at w n
+    as_before = gone_again w v u k x put gone (subst (λ (m : ℕ). waiting_at w m ≡ None) (sym is) (none_behind b f a l p w s r h))
+
+    one : length u + 1 ≡ length v
+    one = some_long out x (length u) (length v) (found ∙ put k ∙ ap (λ (t : Bool). cond t (Some x) (waiting_at w k)) (at_itself k)) len
+
+    short : length u ≤ length w
+    short = omega (arith, one, long)
 
 -- a line is written where the same lines were open before
 pub writes_on : (x : Line) (p q v : Pages) → SameLines p q → Writes x q v → Writes x p v

@@ -49,3 +49,20 @@ one_kept {A} {T} {time} {time'} {short} {short'} lanes i old new room room' firs
       timings = kept_in (λ (l : LaneState A). l.plan) timing_of lanes i old new at kept.timing;
       fault = λ f is. still_after first answer f is;
     }))
+
+-- one of them gave a receipt, or had none to give
+pub none_changed : {A : Type 0} (lanes : List (LaneState A)) (i : ℕ) (old new : LaneState A) (room : ℕ) (first : Option BufferFault) (time : ℕ) (short : Bool) (before : LanesState A)
+    → old ≡ slice_index_or lanes i old → new ≡ record old { receipts = new.receipts } → lanes_of lanes room first time short ≡ before → lanes_of (slice_set lanes i new) room first time short ≡ before
+none_changed {A} lanes i old new room first time short before at is was = same ∙ was
+  where
+    same : lanes_of (slice_set lanes i new) room first time short ≡ lanes_of lanes room first time short
+    same = λ j. record {
+      terms = kept_at (λ (l : LaneState A). l.terms) lanes i old new at (ap (λ (l : LaneState A). l.terms) is) j;
+      plans = kept_at (λ (l : LaneState A). l.plan) lanes i old new at (ap (λ (l : LaneState A). l.plan) is) j;
+      waiting = kept_at (λ (l : LaneState A). l.waiting) lanes i old new at (ap (λ (l : LaneState A). l.waiting) is) j;
+      later = kept_at (λ (l : LaneState A). l.later) lanes i old new at (ap (λ (l : LaneState A). l.later) is) j;
+      room = room;
+      fault = first;
+      time = time;
+      short = short;
+    }

@@ -7,10 +7,13 @@ use Rattle.std.proofs.lemmas.List.{get_or-map, get_or-set_same, get_or-set_other
 use Rattle.std.proofs.lemmas.Option.{slice_get_past, unwrap_or-slice_get}
 use Rattle.ack_receipt.specs.Terms.{Terms}
 use Rattle.buffer_store.specs.declared.fault.BufferFault.{BufferFault}
+use Rattle.buffer_store.specs.declared.fault.BufferFault.TheVariants.{Failed, Fault, Memory}
+use Rattle.ack_receipt.specs.declared.fault.RedeemFault.{RedeemFault}
+use Rattle.ack_receipt.specs.declared.fault.RedeemFault.TheVariants.{Buffer}
 use Rattle.relay_conf.specs.declared.output.BufferNo.{BufferNo}
 use Rattle.ack_receipt.specs.Deliveries.{Appended, Pended}
-use Rattle.ack_receipt.specs.Redeeming.{AreReceiptsOf, origin_of, origin_of_pending}
-use Rattle.buffer_lanes.specs.Lanes.{AreRedeemed, AreRedeemedAt, GetNone, HaveReceipts, IsUntouched, LaneState, LanesState, WaitOn, later_at, listed_at}
+use Rattle.ack_receipt.specs.Redeeming.{AreReceiptsOf, IsUnredeemed, origin_of, origin_of_pending}
+use Rattle.buffer_lanes.specs.Lanes.{AreRedeemed, AreRedeemedAt, GetNone, HaveReceipts, IsUntouched, LaneState, LanesState, WaitOn, is_lost, later_at, listed_at}
 use Rattle.buffer_lanes.proofs.Keeping.{lanes_of}
 use Rattle.buffer_lanes.proofs.Appending.{listed_is, listed_past, listed_there}
 
@@ -65,6 +68,30 @@ pub wait_on : {A V : Type 0} (items : V → List Pended) (old now : LaneState A)
     → (items put ≡ old.waiting) × (now.receipts ≡ [])
 wait_on items old now put back list held begins again same took all =
     (ap items (again ∙ same ∙ took) ∙ all ∙ ap (λ (l : LaneState _). l.waiting) begins, ap (λ (l : LaneState _). l.receipts) begins)
+
+-- they get none, and there are no receipts
+pub gets_none : {A V : Type 0} (items : V → List Pended) (old now new : LaneState A) (left made : V) → now ≡ fresh old → new ≡ record now { waiting = items left } → left ≡ made → items made ≡ []
+    → (new.terms ≡ old.terms) × (new.plan ≡ old.plan) × GetNone new
+gets_none {A} items old now new left made begins is put none =
+    let same : new ≡ record (fresh old) { waiting = items left } = is ∙ ap (λ (l : LaneState A). record l { waiting = items left }) begins in (
+      ap (λ (l : LaneState A). l.terms) same,
+      ap (λ (l : LaneState A). l.plan) same,
+      record {
+        later = ap (λ (l : LaneState A). l.later) same;
+        waiting = ap (λ (l : LaneState A). l.waiting) same ∙ ap items put ∙ none;
+        receipts = ap (λ (l : LaneState A). l.receipts) same;
+      },
+    )
+
+-- what refuses them is the device, but for want of memory
+pub lost_unless : (given : RedeemFault) (why : BufferFault) → IsUnredeemed given → given ≡ Buffer why → (why ≡ Memory → ⊥) → is_lost why ≡ true
+lost_unless given why refused is other = by (subst IsUnredeemed is refused)
+  where
+    by : IsUnredeemed (Buffer why) → is_lost why ≡ true
+    by (inl e) = absurd (cc e)
+    by (inr (inl e)) = let same : why ≡ Failed = cc e in ap is_lost same
+    by (inr (inr (inl e))) = absurd (other (cc e))
+    by (inr (inr (inr e))) = let same : why ≡ Fault = cc e in ap is_lost same
 
 -- a lane's answer, as all buffers see it
 lane_redeemed : {A T : Type 0} (old new : LaneState A) (answer : Result T BufferFault) → OnOk answer (HaveReceipts old new ⊎ WaitOn old new) → OnErr answer (GetNone new)

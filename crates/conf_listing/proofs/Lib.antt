@@ -1,2 +1,4 @@
+pub mod Accepting
+pub mod Accounting
 pub mod Drafting
 pub mod EachConf

@@ -1,8 +1,8 @@
 -- From a configuration that runs in Fluentd to one that a relay reads.
 use Rattle.std.specs.Prelude.{◌≡◌, ◌&&◌, ◌==◌, ℕ, List, ◌∷◌, Some, if◌then◌else◌}
 use Rattle.conf_text.specs.Trees.{Tree, trees}
-use Rattle.conf_adapting.specs.Items.{all_stand_for, items_of}
-use Rattle.conf_adapting.specs.Printed.{all_accepted}
+use Rattle.conf_listing.specs.Items.{all_stand_for, items_of}
+use Rattle.conf_listing.specs.Printed.{all_accepted}
 use Rattle.plan_lines.specs.Plans.{IsRelayOfText}
 use Rattle.relay_conf.specs.declared.relay.Relay.{Relay}
 use Rattle.relay_reading.specs.Stops.{IsConfStop}

@@ -1,7 +1,7 @@
 -- The lines that are printed of a configuration.
 use Rattle.std.specs.Prelude.{◌≡◌, Bool, true, false, ℕ, List, [], ◌++◌, codes}
-use Rattle.conf_adapting.specs.declared.adapted.Entry.{Entry}
-use Rattle.conf_adapting.specs.Printed.{printed_text}
+use Rattle.conf_listing.specs.declared.adapted.Entry.{Entry}
+use Rattle.conf_listing.specs.Printed.{printed_text}
 use Rattle.program_text.specs.Lines.{line}
 
 -- what is said of a byte order mark

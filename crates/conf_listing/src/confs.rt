@@ -5,9 +5,9 @@ ghost use Rattle.std.specs.List.{list_any};
 ghost use Rattle.plan_lines.specs.Plans.{texts as texts_of};
 ghost use Rattle.conf_listing.specs.Networks.{is_faulty, is_stopped, name_line, AddsListing, AreAdaptedConfs, AreOutcomes, AreStopped, AreTextsOf};
 
+use crate::adapted::{Names, put_accepting};
 use crate::conf::adapt_conf;
 use crate::outcome::AdaptedConf;
-use conf_adapting::{Names, put_accepting};
 use relay_reading::stop_line;
 use std::alloc::{AllocError, Allocator};
 

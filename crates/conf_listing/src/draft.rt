@@ -2,11 +2,12 @@
 
 ghost use Rattle.std.specs.Prelude.{◌≡◌, map, string_bytes, IfOk};
 ghost use Rattle.conf_text.specs.Views.{tree_of};
-ghost use Rattle.conf_adapting.specs.Printed.{printed_text};
+ghost use Rattle.conf_listing.specs.Printed.{printed_text};
 ghost use Rattle.conf_listing.specs.Adapting.{IsDraft};
 ghost use Rattle.conf_listing.specs.Lines.{AreLines, mark_note as mark_note_of};
 
-use conf_adapting::{Adapted, adapt};
+use crate::adapted::Adapted;
+use crate::adapting::adapt;
 use conf_text::Element;
 use program_text::ReadFault;
 use std::alloc::{AllocError, Allocator};

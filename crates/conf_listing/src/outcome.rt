@@ -1,6 +1,6 @@
 //! What becomes of a configuration.
 
-use conf_adapting::Adapted;
+use crate::adapted::Adapted;
 use relay_reading::ConfStop;
 use std::alloc::Allocator;
 

@@ -5,7 +5,7 @@ ghost use Rattle.plan_lines.specs.Plans.{IsRelayOfText};
 ghost use Rattle.relay_reading.specs.Stops.{IsConfStop};
 ghost use Rattle.conf_listing.specs.Adapting.{AreOneKind, IsStopOfLines};
 
-use conf_adapting::Adapted;
+use crate::adapted::Adapted;
 use conf_text::ConfFault;
 use relay_conf::{Relay, RelayFault};
 use relay_reading::{ConfStop, read_relay};

@@ -242,12 +242,21 @@ contents_from-later count now chunks sink answered h = ap (λ (slots : List (Opt
 pub sound_again : {A : Type 0} (count n : ℕ) (chunks : List (Option (KeptChunk A))) → n ≡ count → All (IsSlotBelow count) chunks → IsSound count n 0 chunks
 sound_again count n chunks e below = record { below = below; now_is = omega arith; not_queued = λ s less. absurd (omega arith) }
 
+-- where nothing is kept, nothing is marked
+pub no_slots : {A : Type 0} (count : ℕ) (chunks : List (Option (KeptChunk A))) → chunks ≡ [] → All (IsSlotBelow count) chunks
+no_slots count chunks e = rw e (All-nil (IsSlotBelow count))
+
 -- what holds of the chunk at a serial, as the buffer shows it, holds of the slot there
 pub slot_shown : {A : Type 0} (now : ℕ) (chunks : List (Option (KeptChunk A))) (serial : ℕ) (P : Chunk → Type 0) → IsSomeAnd (chunk_at (map (slot_from now) chunks) serial) P
     → (slot : Option (KeptChunk A)) × (serial < length chunks) × (get_or chunks serial slot ≡ slot) × IsSomeAnd (slot_from now slot) P
 slot_shown now [] serial P h = absurd h
 slot_shown now (slot ∷ chunks) zero P h = (slot, omega arith, refl, h)
 slot_shown now (slot ∷ chunks) (suc serial) P h = let w = slot_shown now chunks serial P h in (w.0, omega arith, w.2, w.3)
+
+-- what holds of a slot holds of the chunk at its serial, as the buffer shows it
+pub slot_there : {A : Type 0} (now : ℕ) (chunks : List (Option (KeptChunk A))) (serial : ℕ) (slot : Option (KeptChunk A)) (P : Chunk → Type 0) → serial < length chunks → slot ≡ get_or chunks serial slot
+    → IsSomeAnd (slot_from now slot) P → IsSomeAnd (chunk_at (map (slot_from now) chunks) serial) P
+slot_there now chunks serial slot P within is h = subst (λ (o : Option Chunk). IsSomeAnd o P) (sym (chunk_at-view now chunks serial slot within is)) h
 
 -- Where an event may be appended.
 

@@ -18,9 +18,9 @@ use Rattle.chunk_journal.specs.declared.outline.Outlined.{Outlined}
 use Rattle.chunk_journal.specs.declared.places.Extent.{Extent}
 use Rattle.event_modes.specs.Rows.{IsStored}
 use Rattle.msgpack_bytes.specs.Laws.{HasOneFront}
-use Rattle.journal_reading.specs.Findings.{IsSealedIn}
-use Rattle.journal_reading.specs.Placed.{known_at, known_from}
-use Rattle.journal_reading.proofs.Left.{left_front}
+use Rattle.folder_listing.specs.Findings.{IsSealedIn}
+use Rattle.folder_listing.specs.Placed.{known_at, known_from}
+use Rattle.folder_listing.proofs.Left.{left_front}
 use Rattle.program_text.proofs.ListingSteps.{none_listed}
 use Rattle.sink_series.specs.Events.{Event, under}
 use Rattle.event_listing.specs.Choices.{Chosen}

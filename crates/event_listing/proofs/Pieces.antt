@@ -12,7 +12,7 @@ use Rattle.event_listing.specs.Shown.{IsPut, Shown, ShowsAll}
 use Rattle.event_listing.specs.declared.sink.End.TheVariants.{Ended, Damaged}
 use Rattle.event_listing.specs.declared.stop.Stop.{Stop}
 use Rattle.event_listing.specs.declared.stop.Stop.TheVariants.{Memory, Read, Output}
-use Rattle.journal_reading.proofs.Fed.{known_is}
+use Rattle.folder_listing.proofs.Fed.{known_is}
 use Rattle.event_listing.proofs.Items.{each_append, none_further, nothing_begins, run_append}
 use Rattle.event_listing.proofs.Listed.{listed_append}
 use Rattle.event_listing.proofs.Outputs.{shown_behind, shown_lost, shown_so, shows_more, shows_none}

@@ -1,7 +1,7 @@
 -- What is printed of an event, and of events.
 use Rattle.std.proofs.Common.{ℤ, ◌≡◌, List, ℕ, [], ◌∷◌, ◌++◌, inl, inr, refl, sym, subst}
 use Rattle.std.specs.List.{AllZip, concat}
-use Rattle.event_json.specs.Events.{IsEventLine, IsTimeOf}
+use Rattle.event_listing.specs.Events.{IsEventLine, IsTimeOf}
 use Rattle.recent_lines.specs.Lines.{EndsALine}
 use Rattle.recent_lines.proofs.Kept.{ends_append}
 use Rattle.sink_series.specs.Events.{Event}

@@ -1,9 +1,12 @@
 pub mod Choices
+pub mod Events
 pub mod Files
 pub mod Forms
+pub mod Json
 pub mod Lines
 pub mod Live
 pub mod Notes
 pub mod Passes
 pub mod Reading
 pub mod Shown
+pub mod Walking

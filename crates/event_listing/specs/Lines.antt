@@ -2,7 +2,7 @@
 use Rattle.std.specs.Prelude.{ℕ, ℤ, ◌≡◌, List, [], ◌++◌, Option, Some, None}
 use Rattle.std.specs.Borrow.{Bor}
 use Rattle.std.specs.List.{AllByRecursion}
-use Rattle.event_json.specs.Events.{IsEventLine, IsTimeOf}
+use Rattle.event_listing.specs.Events.{IsEventLine, IsTimeOf}
 use Rattle.sink_series.specs.Events.{Event}
 use Rattle.program_text.specs.Listings.{AreListed}
 use Rattle.event_listing.specs.Choices.{Chosen, IsChosen}

@@ -7,8 +7,8 @@ ghost use Rattle.event_listing.specs.Forms.{form_of, BeginsNoEntry, Items, Under
 ghost use Rattle.event_listing.specs.Lines.{IsPrintedOf, TakesFirst};
 
 use crate::choice::Choice;
+use crate::event::{put_event, time_of};
 use crate::form::Form;
-use event_json::{put_event, time_of};
 use event_modes::{Entries, LONGEST_TAG};
 use msgpack_bytes::next_item;
 use sink_series::next_event;

@@ -1,7 +1,7 @@
 //! Sinks' files that grow, printed in passes.
 
 ghost use Rattle.std.specs.Prelude.{◌≡◌, OnErr, string_bytes};
-ghost use Rattle.journal_reading.specs.Placed.{known_from};
+ghost use Rattle.folder_listing.specs.Placed.{known_from};
 ghost use Rattle.event_listing.specs.Forms.{Items};
 ghost use Rattle.event_listing.specs.Passes.{DoPassesJoin, EndsPass, PrintsPass, ended_at};
 ghost use Rattle.event_listing.specs.Reading.{PrintsFile};
@@ -12,7 +12,7 @@ use crate::output::Output;
 use crate::rest::FileRest;
 use crate::sink::{End, print_sink};
 use crate::stop::Stop;
-use journal_reading::{FrontReader, OpenPlaced};
+use folder_listing::{FrontReader, OpenPlaced};
 use program_text::Status;
 use std::alloc::Allocator;
 use std::io::Write;

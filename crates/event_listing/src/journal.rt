@@ -2,8 +2,8 @@
 
 ghost use Rattle.std.specs.Prelude.{◌≡◌, ◌<◌, length, IfSome};
 ghost use Rattle.event_listing.specs.Live.{is_readable, PrintsChunk, PrintsJournal, PrintsLive};
-ghost use Rattle.journal_reading.specs.Findings.{IsInJournal, IsSealedIn};
-ghost use Rattle.journal_reading.specs.Placed.{known_at};
+ghost use Rattle.folder_listing.specs.Findings.{IsInJournal, IsSealedIn};
+ghost use Rattle.folder_listing.specs.Placed.{known_at};
 
 use crate::choice::Choice;
 use crate::form::Form;
@@ -11,7 +11,7 @@ use crate::output::Output;
 use crate::sink::{End, print_pieces};
 use crate::stop::Stop;
 use chunk_journal::{Extent, Outline, Outlined};
-use journal_reading::{FoundJournal, FrontReader, PlacesReader, ReadAt, found_by};
+use folder_listing::{FoundJournal, FrontReader, PlacesReader, ReadAt, found_by};
 use msgpack_bytes::prefix_free;
 use program_text::PIECE;
 use std::alloc::{AllocError, Allocator};

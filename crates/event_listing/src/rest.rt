@@ -2,7 +2,7 @@
 
 ghost use Rattle.std.specs.Prelude.{◌≡◌};
 
-use journal_reading::ReadAt;
+use folder_listing::ReadAt;
 use std::io;
 use std::io::ErrorKind;
 
@@ -24,7 +24,7 @@ impl<'a, R: ReadAt> FileRest<'a, R> {
 }
 
 impl<R: ReadAt> ReadAt for FileRest<'_, R> {
-    ghost use Rattle.journal_reading.specs.Placed.{known_from};
+    ghost use Rattle.folder_listing.specs.Placed.{known_from};
 
     ghost bytes_of = { λ r. known_from (R.bytes_of r.file.now) r.at };
 

@@ -12,8 +12,8 @@ use Rattle.chunk_journal.specs.Places.{Spots, ArePlaced, places_at}
 use Rattle.chunk_journal.specs.declared.places.Extent.{Extent}
 use Rattle.event_modes.specs.Rows.{IsStored}
 use Rattle.msgpack_bytes.specs.Laws.{HasOneFront}
-use Rattle.journal_reading.specs.Placed.{known_at}
-use Rattle.journal_reading.proofs.Left.{left_front}
+use Rattle.folder_listing.specs.Placed.{known_at}
+use Rattle.folder_listing.proofs.Left.{left_front}
 use Rattle.sink_series.specs.Events.{Event, under}
 use Rattle.event_listing.specs.Forms.{Under, spelled_run, IsIn}
 use Rattle.event_listing.specs.Live.{chunk_events, live_events}

@@ -4,7 +4,7 @@ use Rattle.std.specs.List.{AllByRecursion}
 use Rattle.std.proofs.Math.Seq.{drop-append_seam}
 use Rattle.std.proofs.lemmas.Int.{ints}
 use Rattle.std.proofs.lemmas.List.{length-append}
-use Rattle.event_json.specs.Events.{IsTimeOf}
+use Rattle.event_listing.specs.Events.{IsTimeOf}
 use Rattle.event_listing.specs.Forms.{Form, Items, Under, spelled, spelled_run, BeginsNo, IsIn}
 use Rattle.event_listing.specs.Reading.{longest_item}
 use Rattle.event_listing.proofs.Items.{each_append, fewer_behind, none_further, nothing_begins, run_append}

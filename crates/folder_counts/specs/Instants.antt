@@ -1,7 +1,7 @@
 -- When events happened, as their senders say.
 use Rattle.std.specs.Prelude.{ℤ, pos, neg_ℤ, ◌≡◌, ◌≤ℤ◌, ◌⊎◌, List, [], ◌∷◌, Option, Some, None, MatchOption, int_lt, if◌then◌else◌}
 use Rattle.std.specs.List.{AllByRecursion}
-use Rattle.event_json.specs.Events.{IsTimeOf}
+use Rattle.event_listing.specs.Events.{IsTimeOf}
 use Rattle.jiff_core.specs.DateTime.{civil_nanos}
 use Rattle.sink_series.specs.Events.{Event}
 use Rattle.folder_counts.specs.declared.instant.Instant.{Instant}

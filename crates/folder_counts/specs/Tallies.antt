@@ -2,7 +2,7 @@
 use Rattle.std.specs.Prelude.{ℕ, ℤ, ◌≡◌, ◌+◌, ◌<◌, List, [], ◌++◌, length, Option, Some, None}
 use Rattle.std.specs.Int.{int_max, int_min}
 use Rattle.std.specs.List.{AllByRecursion}
-use Rattle.event_json.specs.Events.{IsTimeOf}
+use Rattle.event_listing.specs.Events.{IsTimeOf}
 use Rattle.event_listing.specs.Forms.{Form, Under, spelled, spelled_run, BeginsNo, IsIn}
 use Rattle.event_listing.specs.Reading.{longest_item}
 use Rattle.buffer_state.specs.State.{State}

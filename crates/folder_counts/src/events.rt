@@ -10,7 +10,7 @@ use crate::instant::instant_at;
 use crate::spelling::Spelling;
 use event_listing::LONGEST_ITEM;
 use event_modes::drop_front;
-use journal_reading::{Feed, FeedStop};
+use folder_listing::{Feed, FeedStop};
 use std::alloc::{AllocError, Allocator};
 use std::marker::Model;
 

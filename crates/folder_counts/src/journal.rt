@@ -7,8 +7,8 @@ ghost use Rattle.chunk_journal.specs.Places.{ArePlaced};
 ghost use Rattle.folder_counts.specs.Counts.{one_chunk, state_counts};
 ghost use Rattle.folder_counts.specs.Findings.{IsInJournal};
 ghost use Rattle.folder_counts.specs.Tallies.{IsOldestIn, IsOldestLive};
-ghost use Rattle.journal_reading.specs.Findings.{IsInJournal as IsOutlineIn, IsSealedIn};
-ghost use Rattle.journal_reading.specs.Placed.{known_at};
+ghost use Rattle.folder_listing.specs.Findings.{IsInJournal as IsOutlineIn, IsSealedIn};
+ghost use Rattle.folder_listing.specs.Placed.{known_at};
 
 use crate::buffers::Found;
 use crate::counts::{ChunkCounts, NO_CHUNKS};
@@ -17,7 +17,7 @@ use crate::instant::instant_at;
 use crate::spelling::Stored;
 use buffer_state::{ChunkFacts, Chunks, LiveChunks, Stage};
 use chunk_journal::{Extent, Outline, Outlined};
-use journal_reading::{
+use folder_listing::{
     FeedStop, FoundJournal, FrontReader, OpenPlaced, PlacesReader, ReadAt, found_by,
 };
 use msgpack_bytes::prefix_free;

@@ -4,7 +4,7 @@ ghost use Rattle.std.specs.Prelude.{◌≡◌, ◌++◌, IfOk, MatchOption};
 ghost use Rattle.event_listing.specs.Forms.{BeginsNoEntry};
 ghost use Rattle.event_modes.specs.Rows.{IsStored};
 
-use event_json::time_of;
+use event_listing::time_of;
 use event_modes::Entries;
 use msgpack_bytes::next_item;
 use sink_series::next_event;

@@ -2,7 +2,7 @@
 //! what can't be read.
 
 use crate::kind::{DataFile, Kind};
-use journal_reading::{OpenPlaced, ReadAt};
+use crate::placed::{OpenPlaced, ReadAt};
 use program_text::{Folder, NamedFile, Open, ReadFault};
 use std::alloc::{AllocError, Allocator};
 use std::fs::File;

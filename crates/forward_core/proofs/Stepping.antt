@@ -1,6 +1,6 @@
 -- A step of a server's session.
-use Rattle.std.proofs.Common.{ℕ, ◌≡◌, ◌+◌, List, [], ◌++◌, take, drop, refl, ap, sym, ◌∙◌, subst, inl, inr, add_comm, None, Result, Ok, Err}
-use Rattle.std.specs.Prelude.{IfOk}
+use Rattle.std.proofs.Common.{ℕ, ◌≡◌, ◌+◌, List, [], ◌++◌, take, drop, refl, ap, sym, ◌∙◌, subst, inl, inr, add_comm, length, ◌≤◌, Option, Some, None, Result, Ok, Err}
+use Rattle.std.specs.Prelude.{IfOk, IfSome}
 use Rattle.std.proofs.lemmas.List.{drop-drop, append-nil}
 use Rattle.msgpack_bytes.specs.Item.{IsOpen}
 use Rattle.auth_handshake.specs.declared.answers.Ping.TheVariants.{Passed}
@@ -8,7 +8,8 @@ use Rattle.auth_handshake.specs.Ends.{ServerEnd, IsAnswer}
 use Rattle.ack_receipt.specs.Reservations.{Asked, Reservation}
 use Rattle.forward_core.specs.Demands.{Wanted, asked_in}
 use Rattle.forward_core.specs.Handshakes.{IsShown}
-use Rattle.forward_core.specs.Server.{ServerPhase, Awaiting, Opened, Over, Outcome, ServerState, ReadsOn, ServerReads, Greets, MayWait, after}
+use Rattle.forward_core.specs.declared.taken.TakenItem.{TakenItem}
+use Rattle.forward_core.specs.Server.{ServerPhase, Awaiting, Opened, Over, Outcome, ServerState, ReadsOn, ServerReads, Greets, MayWait, after, outcome_of}
 
 -- what bytes behind the first item come to
 abbrev pub outcome : ServerPhase → List ℕ → List ℕ → List Wanted → Outcome
@@ -65,3 +66,24 @@ stays session o m b = (
 pub of_this : {S T E : Type 0} (r : Result T E) (P : S → T → Type 0) (server : S) → IfOk r (λ taken. (s : S) → P s taken) → IfOk r (P server)
 of_this (Ok _) P server all = all server
 of_this (Err _) P server all = tt
+
+-- what these bytes came to
+abbrev Came : ServerState → List ℕ → ServerState → List Wanted → Type 0
+Came old bytes new wants = (out : Outcome) × ServerReads old.phase bytes out × (new ≡ after old out) × (wants ≡ out.wants)
+
+-- what was held came to it with the piece that it took in
+pub came_with : (inside old mid new : ServerState) (held piece : List ℕ) (wants : List Wanted) → inside ≡ old → mid ≡ record inside { held = held } → held ≡ inside.held ++ piece
+    → Came mid mid.held new wants → Came old (old.held ++ piece) new wants
+came_with inside old mid new held piece wants same is took came =
+    subst (λ (s : ServerState). Came s (s.held ++ piece) new wants) same
+    (subst (λ (h : List ℕ). Came inside h new wants) took (subst (λ (s : ServerState). Came s s.held new wants) is came))
+
+-- what was found of what is held and of more behind it
+pub both_read : {A : Type 0} (found : Option (TakenItem A)) (taken : TakenItem A) (inside now : ServerState) (front more : List ℕ) → inside ≡ now → front ≡ inside.held → found ≡ Some taken
+    → IfSome found (λ t. (before : ServerPhase) → ReadsOn [] (front ++ more) (outcome_of before more t)) → ReadsOn [] (now.held ++ more) (outcome_of Opened more taken)
+both_read {A} found taken inside now front more same lent is reads =
+    subst (λ (h : List ℕ). ReadsOn [] (h ++ more) (outcome_of Opened more taken)) (lent ∙ ap (λ (s : ServerState). s.held) same)
+    (subst (λ (o : Option (TakenItem A)). IfSome o (λ t. (before : ServerPhase) → ReadsOn [] (front ++ more) (outcome_of before more t))) is reads Opened)
+
+pub both_len : {A : Type 0} (found : Option (TakenItem A)) (taken : TakenItem A) (more : List ℕ) → found ≡ Some taken → IfSome found (λ t. t.len ≤ length more) → taken.len ≤ length more
+both_len {A} found taken more is len = subst (λ (o : Option (TakenItem A)). IfSome o (λ t. t.len ≤ length more)) is len

@@ -1,7 +1,7 @@
 -- The plan that a text says itself is asked.
 use Rattle.std.proofs.Common.{◌≡◌, List, ℕ, Bool, false, subst, sym}
-use Rattle.deliberate_drops.specs.Plans.{IsDroppedPlanOf}
-use Rattle.deliberate_drops.specs.declared.name.DropName.{DropName}
+use Rattle.label_plan.specs.Plans.{IsDroppedPlanOf}
+use Rattle.label_plan.specs.declared.name.DropName.{DropName}
 use Rattle.loss_checker.specs.Broken.{AreBrokenRules}
 use Rattle.loss_checker.specs.declared.broken.BrokenRule.{BrokenRule}
 use Rattle.loss_rules.specs.Breaks.{Subject}

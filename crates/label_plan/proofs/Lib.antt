@@ -1,5 +1,16 @@
+pub mod Bools
+pub mod Changing
+pub mod Clashing
 pub mod Dropless
+pub mod Dropping
+pub mod Ends
+pub mod Fields
 pub mod Given
+pub mod Gone
 pub mod Keeping
 pub mod Nones
+pub mod Numerals
+pub mod Outlining
 pub mod Peeling
+pub mod Putting
+pub mod Standing

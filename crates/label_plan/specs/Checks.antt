@@ -1,7 +1,7 @@
 -- What is found of a plan with the labels and reaches that it lacks.
 use Rattle.std.specs.Prelude.{◌≡◌, ℕ, List, Bool, true, false}
-use Rattle.deliberate_drops.specs.Plans.{IsDroppedPlanOf}
-use Rattle.deliberate_drops.specs.declared.name.DropName.{DropName}
+use Rattle.label_plan.specs.Plans.{IsDroppedPlanOf}
+use Rattle.label_plan.specs.declared.name.DropName.{DropName}
 use Rattle.label_plan.specs.Labelling.{IsLabelledDropping}
 use Rattle.loss_checker.specs.Broken.{AreBrokenRules}
 use Rattle.loss_checker.specs.declared.broken.BrokenRule.{BrokenRule}

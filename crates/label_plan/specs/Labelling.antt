@@ -1,7 +1,7 @@
 -- What a plan's text is with the labels and reaches that it lacks.
 use Rattle.std.specs.Prelude.{◌≡◌, ℕ, List, ◌++◌}
-use Rattle.deliberate_drops.specs.Plans.{IsDropped}
-use Rattle.deliberate_drops.specs.declared.name.DropName.{DropName}
+use Rattle.label_plan.specs.Plans.{IsDropped}
+use Rattle.label_plan.specs.declared.name.DropName.{DropName}
 use Rattle.loss_rules.specs.Breaks.{Subject}
 use Rattle.loss_rules.specs.Rules.{ClientsAreLabelled, ReachesCover, RelabelsAreLabelled, ForwardsAreLabelled}
 use Rattle.loss_rules.specs.declared.label.Label.{Label}

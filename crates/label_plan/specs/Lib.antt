@@ -1,3 +1,14 @@
-pub mod Labelling
-pub mod Lines
+pub mod Changes
 pub mod Checks
+pub mod Clashes
+pub mod Drops
+pub mod Labelling
+pub mod Laws
+pub mod Lines
+pub mod Names
+pub mod OneByOne
+pub mod Outlines
+pub mod Plans
+pub mod Printed
+pub mod Reading
+pub mod Sinks

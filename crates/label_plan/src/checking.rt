@@ -1,15 +1,17 @@
 //! A plan is labelled, and then asked for its broken rules.
 
 ghost use Rattle.std.specs.Prelude.{◌≡◌, [], length, true, false, IfOk, IfErr, IfSome};
-ghost use Rattle.deliberate_drops.specs.Plans.{IsNoDroppedPlan};
+ghost use Rattle.label_plan.specs.Plans.{IsNoDroppedPlan};
 ghost use Rattle.plan_lines.specs.Faults.{IsRefusal};
 ghost use Rattle.plan_lines.specs.Forms.{confs_named};
 ghost use Rattle.plan_lines.specs.Plans.{texts};
 ghost use Rattle.loss_checker.specs.Broken.{AreBrokenRules};
 ghost use Rattle.label_plan.specs.Checks.{AreChecked, IsLabelledCheck};
 
+use crate::error::DroppedPlanError;
 use crate::labelled::{dropped_plan, labelled_dropping};
-use deliberate_drops::{DropName, DroppedPlanError, plan_with_drops};
+use crate::name::DropName;
+use crate::plan::plan_with_drops;
 use loss_checker::{BrokenRule, broken_rules};
 use plan_lines::{Plan, PlanError};
 use std::alloc::{AllocError, Allocator};

@@ -1,7 +1,7 @@
 //! The text of a plan with the lines that it lacks.
 
 ghost use Rattle.std.specs.Prelude.{◌≡◌, ◌↔◌, IfOk, IfErr, IfSome, IsTrue, length, option_map, ◌⊎◌};
-ghost use Rattle.deliberate_drops.specs.Plans.{IsDroppedPlanOf};
+ghost use Rattle.label_plan.specs.Plans.{IsDroppedPlanOf};
 ghost use Rattle.plan_lines.specs.Faults.{IsRefusal};
 ghost use Rattle.plan_lines.specs.Forms.{confs_named};
 ghost use Rattle.plan_lines.specs.Plans.{texts};
@@ -10,8 +10,10 @@ ghost use Rattle.label_plan.specs.Lines.{OnlyAdds};
 
 use crate::certificate::{is_closed, is_kept, only_adds};
 use crate::derive::derived;
+use crate::error::{DropError, DroppedPlanError};
 use crate::manner::{Manner, Preference};
-use deliberate_drops::{DropError, DropName, DroppedPlanError, plan_with_drops};
+use crate::name::DropName;
+use crate::plan::plan_with_drops;
 use plan_lines::{Plan, PlanError, conf_names};
 use std::alloc::{AllocError, Allocator};
 

@@ -1,11 +1,14 @@
 -- A book of which one message or one delivery changed.
-use Rattle.std.proofs.Common.{◌≡◌, ℕ, zero, suc, ◌<◌, List, [], ◌∷◌, ◌++◌, map, set, length, get_or, Option, Some, option_map, slice_get, IsSomeAnd, refl, sym, ap, ◌∙◌, arith}
-use Rattle.std.specs.Option.{option_map_or}
+use Rattle.std.proofs.Common.{◌≡◌, ℕ, zero, suc, ◌+◌, ◌<◌, List, [], ◌∷◌, ◌++◌, map, set, take, length, get_or, Option, Some, option_map, slice_get, IsSomeAnd, refl, sym, ap, ◌∙◌, arith, Vec, Bor}
+use Rattle.std.specs.Option.{option_copied, option_map_or}
+use Rattle.std.specs.Slice.{IsItemAt}
 use Rattle.std.proofs.Math.Seq.{map-set_same}
-use Rattle.std.proofs.lemmas.List.{length-map, map-set, map-append}
+use Rattle.std.proofs.lemmas.List.{length-map, map-set, map-append, map_more}
 use Rattle.std.proofs.lemmas.Option.{slice_get-map, slice_get_read, slice_get-get_or}
+use Rattle.step_lines.specs.Texts.{texts_of}
+use Rattle.relay_net.proofs.Gets.{got}
 use Rattle.message_book.specs.declared.message.Acknowledged.{Acknowledged}
-use Rattle.message_book.specs.Book.{Message, Delivery, Opened, book_from, changed_at, events_told, with_room, Told, told_of, told_events}
+use Rattle.message_book.specs.Book.{Message, Delivery, Opened, book_from, changed_at, events_told, with_room, Told, told_of, told_to, told_events}
 
 changed_at-read : {X : Type 0} (xs : List X) (n : ℕ) (x : X) (change : X → X) → slice_get xs n ≡ Some x → changed_at xs n change ≡ set xs n (change x)
 changed_at-read {X} xs n x change at = ap (λ (o : Option X). option_map_or (λ y. set xs n (change y)) o xs) at
@@ -25,7 +28,23 @@ told-read messages n m within is = ap (λ (o : Option Message). option_map_or ev
 pub stored-added : {A : Type 0} (old new after : List (Acknowledged A)) → after ≡ old ++ new → told_events after ≡ told_events old ++ told_events new
 stored-added old new after e = ap told_events e ∙ map-append told_of old new
 
+-- the event that a client was told of one more entry
+pub told_more : {A : Type 0} (client : ℕ) (tag : List ℕ) (entries : List (Vec ℕ A)) (i : ℕ) (entry : Vec ℕ A) (events : List (Acknowledged A)) (last : Acknowledged A) → i < length entries → entry ≡ get_or entries i entry
+    → last.client ≡ client → last.event.tag.items ≡ tag → last.event.entry.items ≡ entry.items → told_events events ≡ told_to client tag (texts_of (take i entries))
+    → told_events (events ++ last ∷ []) ≡ told_to client tag (texts_of (take (i + 1) entries))
+told_more {A} client tag entries i entry events last less is by tagged copied so_far =
+    let told : List ℕ → Told = λ text. record { client = client; event = record { tag = tag; entry = text } } in
+    let same : last.event.entry.items ≡ (get_or entries i entry).items = copied ∙ ap (λ (text : Vec ℕ A). text.items) is in
+    let shown : told_of last ≡ told (get_or entries i entry).items = λ j. record { client = by j; event = record { tag = tagged j; entry = same j } } in
+    map-append told_of events (last ∷ []) ∙ (λ j. so_far j ++ shown j ∷ [])
+    ∙ sym (ap (map told) (map_more (λ (text : Vec ℕ A). text.items) entries i entry less) ∙ map-append told (texts_of (take i entries)) ((get_or entries i entry).items ∷ []))
+
 -- Deliveries.
+
+-- the delivery of a number, among those with the room that they have
+pub got_delivery : (opened found : List Opened) (number : ℕ) (r : Option (Bor Opened)) → found ≡ opened → IsItemAt found number r
+    → option_map (λ d. d.delivery) (option_copied r) ≡ slice_get (map (λ (d : Opened). d.delivery) opened) number
+got_delivery opened found number r same is = ap (option_map (λ (d : Opened). d.delivery)) (got opened found number r same is) ∙ sym (slice_get-map (λ (d : Opened). d.delivery) opened number)
 
 -- An element was replaced by another one, and this is shown of it.
 module _ {Y : Type 0} (show : Opened → Y) (change : Y → Y) (opened : List Opened) (n : ℕ) (old new : Opened) (within : n < length opened) (is : old ≡ get_or opened n old) where

@@ -6,10 +6,10 @@ use crate::marks::Mark;
 use crate::rows::Row;
 use crate::sheet::Sheet;
 use loss_checker::BrokenRule;
+use plan_advice::Texts;
 use plan_lines::Plan;
 use relay_conf::{Output, Server};
 use relay_net::Entrance;
-use rule_advice::Texts;
 use std::alloc::{AllocError, Allocator};
 
 // What a red node or edge has.

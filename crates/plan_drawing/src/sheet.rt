@@ -3,8 +3,8 @@
 use crate::marks::{Mark, is_at, is_nowhere, marks_of};
 use crate::rows::{Row, Rows, rows_of};
 use loss_checker::BrokenRule;
+use plan_advice::Texts;
 use plan_lines::Plan;
-use rule_advice::Texts;
 use std::alloc::{AllocError, Allocator};
 
 /// A plan and its texts, with the rows of a picture and the places where rules are broken.

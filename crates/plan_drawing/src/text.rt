@@ -7,8 +7,8 @@ use crate::marks::{Mark, is_at};
 use crate::rows::Row;
 use crate::sheet::Sheet;
 use loss_checker::BrokenRule;
+use plan_advice::Texts;
 use plan_lines::Plan;
-use rule_advice::Texts;
 use std::alloc::{AllocError, Allocator};
 
 // Where what is said of a row begins.

@@ -11,3 +11,4 @@ pub mod LastValues
 pub mod Counting
 pub mod Numbering
 pub mod OwnBuffers
+pub mod Nowhere

@@ -40,6 +40,10 @@ one_lookup lookups nodes last new are is = record {
   outputs = one_index lookups nodes last new (same_length lookups nodes are) are.outputs is.outputs;
 }
 
+-- before the first relay nothing is looked up
+pub no_lookups : {A : Type 0} (lookups : List (Lookup A)) → lookups ≡ [] → AreLookups lookups []
+no_lookups lookups e = rw e (record { routes = refl; outputs = λ place lookup node is k. absurd (cc is) })
+
 -- the table of a relay that may be there
 node_table : {A : Type 0} (found : Option (Node A)) → option_map_or table_of (option_map (λ n. n.relay) found) [] ≡ unwrap_or (option_map (λ n. table_of n.relay) found) []
 node_table None = refl

@@ -1,6 +1,5 @@
 -- Where sockets are, and where connections come from.
-use Rattle.std.specs.Prelude.{ℕ, ◌≡◌, ◌≢◌, List, Bool, ◌&&◌, nat_eq}
-use Rattle.std.specs.Str.{bytes_eq}
+use Rattle.std.specs.Prelude.{ℕ, ◌≡◌, ◌≢◌, List}
 
 -- a host, by its number or its name, and a port
 pub record Endpoint : Type 0 where
@@ -16,7 +15,3 @@ IsPortOf port endpoint = endpoint.port ≢ 0 → port ≡ endpoint.port
 pub data Origin : Type 0 where
   CameAt : ℕ → Origin
   WentTo : Endpoint → Origin
-
--- whether two endpoints are the same: hosts are compared as texts
-abbrev pub same_endpoint : Endpoint → Endpoint → Bool
-same_endpoint a b = bytes_eq a.host b.host && nat_eq a.port b.port

@@ -1,5 +1,4 @@
 pub mod Accepting
 pub mod Drawing
 pub mod Endpoints
-pub mod Remembered
 pub mod Traffics

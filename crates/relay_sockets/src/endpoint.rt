@@ -1,7 +1,6 @@
 //! Where a socket is.
 
 ghost use Rattle.std.specs.Prelude.{◌≡◌, IfOk};
-ghost use Rattle.relay_sockets.specs.Endpoints.{same_endpoint};
 
 use std::alloc::{AllocError, Allocator};
 use std::marker::Model;
@@ -45,12 +44,5 @@ impl<A: Allocator> Endpoint<A> {
         ensures { result ≡ self.now.port }
     {
         self.port
-    }
-
-    /// Whether it is this host and port.
-    pub fn is_at(&self, host: &str, port: u16) -> bool
-        ensures { result ≡ same_endpoint self.now (record { host = host.now; port = port }) }
-    {
-        self.host.as_str() == host && self.port == port
     }
 }

@@ -2,8 +2,7 @@
 //!
 //! Listeners, connections and time stand behind traits, so that a loop and couriers can be proved
 //! over any network: which endpoint was bound, at which listener a connection came in, which
-//! endpoint was asked for, and which bytes went each way are ghost members of the sockets. One
-//! implementation is the system's sockets, and one is in memory.
+//! endpoint was asked for, and which bytes went each way are ghost members of the sockets.
 #![tactic(auto)]
 
 mod address;
@@ -11,9 +10,6 @@ mod chance;
 mod clock;
 mod dialer;
 mod endpoint;
-mod memory_dialer;
-mod memory_network;
-mod memory_wire;
 mod network;
 mod socket_network;
 mod system_dialer;
@@ -24,9 +20,6 @@ pub use chance::{Nonce, Nonces};
 pub use clock::{Time, now_after};
 pub use dialer::{Dialer, Unreached};
 pub use endpoint::Endpoint;
-pub use memory_dialer::MemoryDialer;
-pub use memory_network::{MemoryListener, MemoryNetwork};
-pub use memory_wire::MemoryWire;
 pub use network::{Accepted, NetFault, Network, Note, Spot};
 pub use socket_network::{SocketListener, SocketNetwork, SocketWire};
 pub use system_dialer::{SystemDialer, SystemWire};

@@ -75,21 +75,15 @@ pub struct Note {
 /// Listeners, and the connections that come in at them, for one thread that waits for all of them
 /// at once.
 pub trait Network: Time {
-    ghost use Rattle.std.specs.Prelude.{◌≡◌, ℕ, Bool, List, [], ◌∷◌, ◌++◌, length, Option, None, Err, IfOk, IfSome, OnOk, OnErr, slice_get};
+    ghost use Rattle.std.specs.Prelude.{◌≡◌, ℕ, List, [], ◌∷◌, ◌++◌, length, Option, None, Err, IfOk, IfSome, OnOk, OnErr, slice_get};
     ghost use Rattle.relay_sockets.specs.Endpoints.{Endpoint, CameAt, IsPortOf};
     ghost use Rattle.relay_sockets.specs.Traffics.{IsFresh};
-    ghost use Rattle.relay_sockets.specs.Accepting.{IfStream, IsAnswered};
+    ghost use Rattle.relay_sockets.specs.Accepting.{IfStream};
     ghost use Rattle.relay_sockets.specs.declared.network.NetFault as declared;
 
     type Listener: Drop;
 
     type Stream: Wire + Drop;
-
-    // whether it is known at which listeners connections wait; of the system's sockets it isn't
-    ghost is_known: { Self → Type 0 };
-
-    // whether a connection waits at the listener with a number
-    ghost waits: { Self → ℕ → Bool };
 
     // why it refuses to wait, where it is known to; of the system's sockets it isn't
     ghost refusal: { Self → Option declared.NetFault } = { λ _. None };
@@ -114,9 +108,6 @@ pub trait Network: Time {
     /// The port that the listener has: the one that was bound, or the one that the system chose
     /// where that is 0.
     fn port(&self, listener: &Self::Listener) -> u16
-        ensures known { is_known self.now
-            → IfSome (slice_get (bound self.now) (number listener.now))
-            (λ endpoint. result ≡ endpoint.port) }
         ensures bound { IfSome (slice_get (bound self.now) (number listener.now))
             (IsPortOf result) };
 
@@ -126,9 +117,7 @@ pub trait Network: Time {
         ensures time { Self.time self.new ≡ Self.time self.old }
         ensures came { IfStream result
             (λ stream. Self.Stream.origin stream ≡ CameAt (number listener.now)) }
-        ensures fresh { IfStream result (λ stream. IsFresh (Self.Stream.traffic stream)) }
-        ensures known { is_known self.old
-            → IsAnswered (waits self.old (number listener.now)) result };
+        ensures fresh { IfStream result (λ stream. IsFresh (Self.Stream.traffic stream)) };
 
     /// Has a connection noted under this key from now on. `Poll`: the system reports nothing of it,
     /// or not under such a key.

@@ -155,15 +155,9 @@ impl<R: Clock, A: Allocator> Time for SocketNetwork<R, A> {
 }
 
 impl<R: Net + Clock, A: Allocator + Copy> Network for SocketNetwork<R, A> {
-    ghost use Rattle.std.specs.Prelude.{false};
-
     type Listener = SocketListener;
 
     type Stream = SocketWire;
-
-    ghost is_known = { λ _. ⊥ };
-
-    ghost waits = { λ _ _. false };
 
     ghost bound = { λ n. n.bound.items };
 

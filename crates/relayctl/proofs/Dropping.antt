@@ -2,10 +2,10 @@
 use Rattle.std.proofs.Common.{◌≡◌, ◌==◌, ◌+◌, ◌<◌, ◌≤◌, ℕ, zero, suc, Bool, false, Result, Ok, Err, List, [], ◌∷◌, ◌++◌, append_assoc, codes, get_or, take, length, slice_get, sym, ap, subst, refl, ◌∙◌, arith}
 use Rattle.std.proofs.lemmas.List.{take_all, take_more}
 use Rattle.std.specs.Prelude.{OnOk}
-use Rattle.deliberate_drops.specs.declared.name.DropName.{DropName}
+use Rattle.label_plan.specs.declared.name.DropName.{DropName}
 use Rattle.loss_checker.specs.declared.broken.BrokenRule.{BrokenRule}
 use Rattle.loss_rules.specs.Breaks.{Subject}
-use Rattle.plan_warnings.specs.Notes.{AddsNotes}
+use Rattle.plan_advice.specs.Notes.{AddsNotes}
 use Rattle.program_text.specs.Lines.{line}
 use Rattle.program_text.specs.declared.status.Status.{Status}
 use Rattle.program_text.specs.declared.status.Status.TheVariants.{Done}

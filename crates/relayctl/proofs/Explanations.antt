@@ -6,7 +6,7 @@ use Rattle.std.specs.Prelude.{All, IsPermutation}
 use Rattle.std.specs.declared.vec.Vec.{Vec}
 use Rattle.std.proofs.Common.{◌≡◌, ℕ, List, ◌++◌, Bool, true, false, refl, ap, ◌∙◌, inl, inr, append_assoc, ◌<◌, ◌+◌, [], ◌∷◌, get_or, take, length, subst, sym}
 use Rattle.std.specs.Bool.{IsTrue}
-use Rattle.deliberate_drops.specs.declared.name.DropName.{DropName}
+use Rattle.label_plan.specs.declared.name.DropName.{DropName}
 use Rattle.loss_search.specs.Losses.{IsLosingText}
 use Rattle.loss_rules.specs.Breaks.{Subject}
 use Rattle.loss_rules.specs.declared.answer.Answer.TheVariants as answer

@@ -6,7 +6,7 @@ use Rattle.std.specs.Prelude.{IfOk, MatchResult, Option}
 use Rattle.std.specs.declared.vec.Vec.{Vec}
 use Rattle.conf_listing.specs.Answers.{IsAdapted}
 use Rattle.conf_listing.specs.Networks.{AreAdaptedTexts}
-use Rattle.deliberate_drops.specs.declared.name.DropName.{DropName}
+use Rattle.label_plan.specs.declared.name.DropName.{DropName}
 use Rattle.label_plan.specs.Checks.{IsLabelledCheck}
 use Rattle.loss_checker.specs.declared.broken.BrokenRule.{BrokenRule}
 use Rattle.loss_rules.specs.Breaks.{Subject}

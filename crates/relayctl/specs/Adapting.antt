@@ -1,6 +1,6 @@
 -- What is said of a plan whose configurations are adapted.
 use Rattle.std.specs.Prelude.{◌≡◌, ◌⊎◌, true, false, ℕ, List, ◌++◌, codes, Option}
-use Rattle.deliberate_drops.specs.declared.name.DropName.{DropName}
+use Rattle.label_plan.specs.declared.name.DropName.{DropName}
 use Rattle.conf_listing.specs.Networks.{AreAdaptedTexts, AreNotAdapted}
 use Rattle.conf_listing.specs.declared.confs.StoppedConfs.{StoppedConfs}
 use Rattle.plan_answers.specs.Networks.{AreRead}

@@ -2,7 +2,7 @@
 -- events may go: a yes, or every broken rule; or why there is no answer.
 use Rattle.std.specs.Prelude.{◌≡◌, ◌≢◌, ◌<◌, ◌≤◌, ◌⊎◌, All, Bool, true, false, ℕ, List, [], ◌∷◌, ◌++◌, codes, flat_map, get_or, length, Option}
 use Rattle.std.specs.declared.vec.Vec.{Vec}
-use Rattle.deliberate_drops.specs.declared.name.DropName.{DropName}
+use Rattle.label_plan.specs.declared.name.DropName.{DropName}
 use Rattle.label_plan.specs.Checks.{IsLabelledCheck}
 use Rattle.loss_checker.specs.declared.broken.BrokenRule.{BrokenRule}
 use Rattle.loss_rules.specs.Breaks.{Subject}
@@ -13,7 +13,7 @@ use Rattle.plan_answers.specs.Networks.{AreRead, answer_line, IsStopLine}
 use Rattle.plan_lines.specs.Faults.{IsRefusal}
 use Rattle.plan_lines.specs.declared.error.PlanError.{PlanError}
 use Rattle.plan_lines.specs.declared.error.PlanError.TheVariants as refusal
-use Rattle.plan_warnings.specs.Notes.{AddsNotes}
+use Rattle.plan_advice.specs.Notes.{AddsNotes}
 use Rattle.program_text.specs.Lines.{line}
 use Rattle.program_text.specs.Output.{IsPrinted}
 use Rattle.program_text.specs.declared.status.Status.{Status}

@@ -3,13 +3,13 @@
 use Rattle.std.specs.Prelude.{◌≡◌, ◌≢◌, ◌<◌, ◌⊎◌, ℕ, List, [], ◌∷◌, ◌++◌, Contains, codes, length, map, Option}
 use Rattle.std.specs.Borrow.{Bor}
 use Rattle.std.specs.List.{AllZip}
-use Rattle.deliberate_drops.specs.Names.{spelled, IsName}
-use Rattle.deliberate_drops.specs.OneByOne.{IsMeant, IsRefusedAt}
-use Rattle.deliberate_drops.specs.Printed.{error_text, name_error_text}
-use Rattle.deliberate_drops.specs.declared.error.DropError.{DropError}
-use Rattle.deliberate_drops.specs.declared.error.DropError.TheVariants as error
-use Rattle.deliberate_drops.specs.declared.name.DropName.{DropName}
-use Rattle.deliberate_drops.specs.declared.place.MatchPlace.{MatchPlace}
+use Rattle.label_plan.specs.Names.{spelled, IsName}
+use Rattle.label_plan.specs.OneByOne.{IsMeant, IsRefusedAt}
+use Rattle.label_plan.specs.Printed.{error_text, name_error_text}
+use Rattle.label_plan.specs.declared.error.DropError.{DropError}
+use Rattle.label_plan.specs.declared.error.DropError.TheVariants as error
+use Rattle.label_plan.specs.declared.name.DropName.{DropName}
+use Rattle.label_plan.specs.declared.place.MatchPlace.{MatchPlace}
 use Rattle.loss_rules.specs.Breaks.{Subject}
 use Rattle.plan_lines.specs.Plans.{IsPlanOf}
 use Rattle.program_text.specs.Lines.{line, memory_line}
@@ -19,7 +19,7 @@ use Rattle.program_text.specs.declared.status.Status.{Status}
 use Rattle.program_text.specs.declared.status.Status.TheVariants.{Usage}
 use Rattle.relayctl.specs.declared.drops.DropNames.{DropNames}
 use Rattle.relayctl.specs.declared.drops.DropNames.TheVariants as found
-use Rattle.rule_advice.specs.Sites.{site_line}
+use Rattle.plan_advice.specs.Sites.{site_line}
 
 -- The words are these names, each as it is spelled.
 abbrev pub AreNames : List (List ℕ) → List DropName → Type 0

@@ -1,7 +1,7 @@
 -- What is printed of a plan, its answer or its fault, with what explains it.
 use Rattle.std.specs.Prelude.{◌≡◌, ◌≢◌, Bool, true, false, ℕ, List, [], ◌++◌, codes, flat_map, Option, ◌⊎◌}
-use Rattle.deliberate_drops.specs.Plans.{IsDroppedPlanOf}
-use Rattle.deliberate_drops.specs.declared.name.DropName.{DropName}
+use Rattle.label_plan.specs.Plans.{IsDroppedPlanOf}
+use Rattle.label_plan.specs.declared.name.DropName.{DropName}
 use Rattle.loss_search.specs.Losses.{IsLosingText}
 use Rattle.loss_rules.specs.Breaks.{IsAnswer, Subject}
 use Rattle.loss_rules.specs.declared.answer.Answer.{Answer}

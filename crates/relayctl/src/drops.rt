@@ -2,17 +2,17 @@
 //! yes, and where names mean no match.
 
 ghost use Rattle.std.specs.Prelude.{◌≡◌, ◌++◌, ℕ, List, length, map, IfOk, OnOk};
-ghost use Rattle.deliberate_drops.specs.Printed.{error_text};
+ghost use Rattle.label_plan.specs.Printed.{error_text};
 ghost use Rattle.plan_lines.specs.Forms.{confs_named};
 ghost use Rattle.plan_lines.specs.Plans.{texts as texts_of};
 ghost use Rattle.program_text.specs.Listings.{AreListed as AreLines};
 ghost use Rattle.relayctl.specs.Dropping.{drop_fault, drops_head as drops_head_of, name_text, AddsDrops, AreReadOrMisspelt, IsMisspeltLine, IsMissing, IsMissingLine, IsSaidOf, PrintsMisspelt};
 
 use crate::explain::Said;
-use deliberate_drops::{DropError, DropName, NameError, place_of};
+use label_plan::{DropError, DropName, NameError, place_of};
 use loss_checker::Plan;
+use plan_advice::Texts;
 use program_text::{Status, put_last};
-use rule_advice::Texts;
 use std::alloc::{AllocError, Allocator};
 use std::io::Write;
 

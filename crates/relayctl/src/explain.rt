@@ -7,11 +7,11 @@ ghost use Rattle.plan_answers.specs.Networks.{plan_fault_line};
 ghost use Rattle.relayctl.specs.Explaining.{last_line as last_line_of, IsExplanation, PrintsExplanation, SaysAnswer, SaysFault, SaysFaults};
 
 use crate::drops::{put_drops, say_missing};
-use deliberate_drops::{DropError, DropName, DroppedPlanError, plan_with_drops};
+use label_plan::{DropError, DropName, DroppedPlanError, plan_with_drops};
 use loss_checker::{Answer, Plan, PlanError, check, conf_names};
+use plan_advice::{Texts, explain, explain_fault};
 use plan_answers::{Stop, print_stop, read_confs};
 use program_text::{CountedRead, Open, ReadFault, Status, put_last, read_whole};
-use rule_advice::{Texts, explain, explain_fault};
 use std::alloc::{AllocError, Allocator};
 use std::io::Write;
 

@@ -8,7 +8,7 @@ ghost use Rattle.relayctl.specs.Explaining.{IsLossOrNotes};
 
 use crate::explain::last_line;
 use loss_checker::{Answer, BrokenRule, Place, Plan, Rule};
-use rule_advice::{Texts, explain};
+use plan_advice::{Texts, explain};
 use std::alloc::{AllocError, Allocator};
 
 /// A line as `no K6 relay 2 line 5` for every place where a rule is broken, in the order of the

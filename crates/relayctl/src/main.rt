@@ -18,22 +18,21 @@ mod words;
 
 use check::{lent_names, run_adapted_check, run_check};
 use conf_listing::run_adapt;
-use deliberate_drops::DropName;
 use draw::run_draw;
 use drops::{DropNames, add_listed, print_misspelt, read_names};
 use events::print_events;
 use explain::run_explain;
 use folder_listing::{DataFolder, run_show};
 use label::{run_fresh_label, run_label};
+use label_plan::DropName;
 use plan_answers::{Stop, print_stop};
-use plan_ways::run_plan_ways;
 use program_text::{Folder, ReadFault, Status, print_version, put_last, read_whole};
-use route_listing::run_ways;
 use status::print_status;
 use std::alloc::{AllocError, Allocator};
 use std::io::{ErrorKind, Write};
 use std::process::ExitCode;
 use std::{env, io};
+use way_listing::{run_plan_ways, run_ways};
 use words::{CheckWords, Word, read_word};
 
 const USAGE: &str =

@@ -9,9 +9,8 @@ ghost use Rattle.program_text.specs.declared.status.Status.TheVariants.{Usage};
 
 use crate::watched::WatchedFolder;
 use folder_counts::{AgeLimit, Form, Limits, run_status};
-use folder_listing::{DataFile, DataFolder};
+use folder_listing::{DataFile, DataFolder, OpenPlaced};
 use jiff::Timestamp;
-use journal_reading::OpenPlaced;
 use program_text::{ReadFault, Status, put_last};
 use std::alloc::Allocator;
 use std::io::Write;

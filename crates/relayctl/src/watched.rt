@@ -1,7 +1,6 @@
 //! A data folder whose relay may tell of its outputs.
 
-use folder_listing::{DataFolder, PlacedFile};
-use journal_reading::OpenPlaced;
+use folder_listing::{DataFolder, OpenPlaced, PlacedFile};
 use output_state::STATE_FILE;
 use program_text::{NamedFile, Open};
 use std::io::ErrorKind;

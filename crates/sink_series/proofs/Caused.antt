@@ -63,3 +63,26 @@ never e f r is differs at = (let same : Err e ≡ Err f = sym is ∙ at in diffe
 
 pub refused_never : {T : Type 0} (d : DirError) (r : Result T SeriesFault) → r ≡ Err (fault_of d) → r ≢ Err series.Failed
 refused_never d r is = never (fault_of d) series.Failed r is (λ e. ⊎_elim (λ m. absurd (cc (sym m ∙ e))) (λ f. absurd (cc (sym f ∙ e))) (answers d))
+
+-- a value is no error
+pub ok_never : {T : Type 0} (x : T) (e : SeriesFault) → Ok x ≢ Err e
+ok_never x e is = absurd (cc is)
+
+-- want of memory is no other error
+pub memory_never : {T : Type 0} (r : Result T SeriesFault) → IsErrAnd r (λ y. y ≡ series.Memory) → (r ≢ Err series.Failed) × (r ≢ Err series.Fault) × (r ≢ Err series.LastNumber)
+memory_never r is = let m = told series.Memory r is in (
+  never series.Memory series.Failed r m (λ e. cc e),
+  never series.Memory series.Fault r m (λ e. cc e),
+  never series.Memory series.LastNumber r m (λ e. cc e),
+)
+
+-- nor is a fault
+pub fault_never : {T U : Type 0} (d : DirError) (e : SeriesFault) (given : Result T DirError) (r : Result U SeriesFault) → given ≡ Err d → given ≡ Err dir.Fault → e ≡ fault_of d → r ≡ Err e
+    → (r ≢ Err series.Failed) × (r ≢ Err series.Memory) × (r ≢ Err series.LastNumber)
+fault_never d e given r told_so fault is answered_so =
+    let of : d ≡ dir.Fault = cc (told_so, fault) in
+    let all : r ≡ Err series.Fault = answered_so ∙ ap Err (is ∙ ap fault_of of) in (
+      never series.Fault series.Failed r all (λ q. cc q),
+      never series.Fault series.Memory r all (λ q. cc q),
+      never series.Fault series.LastNumber r all (λ q. cc q),
+    )

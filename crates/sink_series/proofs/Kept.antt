@@ -1,15 +1,24 @@
 -- What an open sink keeps, over a call.
-use Rattle.std.proofs.Common.{ℕ, ◌≡◌, ◌≤◌, ⊎_elim, Bool, true, false, List, [], ◌∷◌, ◌++◌, length, take, Some, None, ap, sym, subst, ◌∙◌, arith}
-use Rattle.std.proofs.lemmas.Bool.{cases_lt}
+use Rattle.std.proofs.Common.{ℕ, ◌≡◌, ◌≤◌, ⊎_elim, Bool, true, false, List, [], ◌∷◌, ◌++◌, length, take, Option, Some, None, refl, ap, sym, subst, ◌∙◌, arith}
+use Rattle.std.specs.List.{AllByRecursion}
+use Rattle.std.proofs.lemmas.Bool.{true≢false, cases_lt}
 use Rattle.std.proofs.lemmas.List.{take-append-le, length-take}
-use Rattle.disk_files.specs.Disk.{Disk, Folder, SameDisk, MayStay, Makes, new_file}
+use Rattle.disk_files.specs.Disk.{Disk, Folder, SameDisk, MayStay, Makes, new_file, with_bytes, flushed, kept_file, Changes}
 use Rattle.disk_files.proofs.Moments.{rests, joined, weaker, here}
 use Rattle.disk_files.specs.Moments.{History, now, Elapses, LeavesOnly}
-use Rattle.sink_series.specs.Events.{Event, under, Holds}
+use Rattle.sink_series.specs.Events.{Event, IsEvent, run_of, under, Holds}
 use Rattle.sink_series.specs.Views.{SeriesView, StoredView, Answer, newest}
-use Rattle.sink_series.specs.Keeping.{IsSafe, StaysSafe, OthersStay, IsBeginning, HasMade, file_with, answered, AnsweredStay, Keeps}
-use Rattle.sink_series.proofs.Writes.{safe_same, safe_here, safe_joined, safe_now, safe_rests}
+use Rattle.sink_series.specs.Keeping.{IsSafe, StaysSafe, OthersStay, IsBeginning, HasMade, file_with, answered, AnsweredStay, IsHonest, Keeps, IsOpen}
+use Rattle.sink_series.proofs.Writes.{safe_same, safe_here, safe_joined, safe_now, safe_rests, others_rest, begun_rests, begun_joined, written_file, kept_safe}
 use Rattle.sink_series.proofs.Contents.{nothing, no_item}
+use Rattle.std.proofs.Common.{Result, Ok, Err}
+use Rattle.std.specs.Result.{IsErrAnd}
+use Rattle.disk_files.specs.Faults.{HasCause as HasDirCause}
+use Rattle.disk_files.specs.declared.dir.DirError.{DirError}
+use Rattle.sink_series.specs.Faults.{HasCause, fault_of}
+use Rattle.sink_series.specs.declared.fault.SeriesFault.{SeriesFault}
+use Rattle.sink_series.specs.declared.fault.SeriesFault.TheVariants as series
+use Rattle.sink_series.proofs.Caused.{told, refused_cause, memory_cause, ok_cause}
 
 -- what is safe at one time is safe at the next, and the past stays
 pub record Passes (old new : History) : Type 0 where
@@ -113,6 +122,17 @@ pub begins_made : (old new : History) (path name : List ℕ) → now old name �
 begins_made old new path name none moments =
     weaker old new (HasMade (now old) path) (λ folder. IsBeginning folder name 0 []) (λ folder. nothing_begun (now old) path name folder none) moments
 
+-- a call that leaves the disk as it was, and one that leaves all files but one
+others_behind : (old mid new : History) (own : List ℕ) → Elapses old mid → SameDisk (now mid) (now old) → OthersStay mid new own → OthersStay old new own
+others_behind old mid new own time same rest = record {
+  later = omega (arith, time.later, rest.later);
+  past = λ t le q. rest.past t (omega (arith, le, time.later)) q ∙ time.past t le q;
+  each = λ t above below name other. ⊎_elim
+      (λ after. rest.each t (omega (arith, after)) below name other ∙ same name)
+      (λ before. rest.past t before name ∙ (others_rest old mid own time same).each t above before name other)
+      (cases_lt mid.moment t);
+}
+
 module _ {D : Type 0} (is_honest : D → Type 0) (history : D → History) where
   -- a sink just opened
   pub keeps_new : (series : SeriesView D) (dir : D) (path : List ℕ) → series.opening ≡ dir → is_honest series.dir → series.begun ≡ [] → series.stored ≡ []
@@ -163,3 +183,128 @@ module _ {D : Type 0} (is_honest : D → Type 0) (history : D → History) where
         older = subst (λ o. (name : List ℕ) (events : List Event) → IsSafe (now (history o)) name events → StaysSafe (history o) (history new.dir) name events) (sym opening)
             (older_on history old.opening old.dir new.dir passes kept.older);
       }
+
+  -- what a stop leaves at each moment of a write, of which room was made before
+  pub begun_write : (old : SeriesView D) (mid new : D) (events : List Event) → IsHonest is_honest history old → old.has_failed ≡ false → AllByRecursion IsEvent old.begun
+      → Elapses (history old.dir) (history mid) → SameDisk (now (history mid)) (now (history old.dir))
+      → ((is_durable : Bool) → now (history mid) (newest old) ≡ Some (file_with old.begun is_durable)
+      → LeavesOnly (history mid) (history new) (λ folder. IsBeginning folder (newest old) (length old.begun) (old.begun ++ events)))
+      → LeavesOnly (history old.dir) (history new) (λ folder. IsBeginning folder (newest old) (length old.begun) (old.begun ++ events))
+  begun_write old mid new events honest ready each time same write =
+      let w = honest.written ready in
+      begun_joined (history old.dir) (history mid) (history new) (newest old) old.begun events
+      (begun_rests (history old.dir) (history mid) (newest old) old.begun events w.0 w.1 each time same) (write w.0 (same (newest old) ∙ w.1))
+
+  -- and of one to a sink that the caller sees so
+  pub begun_given : (opened : Option (List ℕ)) (old given : SeriesView D) (mid new : D) (events : List Event) → old ≡ given → IsOpen is_honest history opened old
+      → (is_honest old.dir → is_honest mid) → (is_honest old.dir → Elapses (history old.dir) (history mid)) → (is_honest old.dir → SameDisk (now (history mid)) (now (history old.dir)))
+      → (is_honest mid → (is_durable : Bool) → now (history mid) (newest old) ≡ Some (file_with old.begun is_durable)
+      → LeavesOnly (history mid) (history new) (λ folder. IsBeginning folder (newest old) (length old.begun) (old.begun ++ events)))
+      → is_honest given.opening → given.has_failed ≡ false
+      → LeavesOnly (history given.dir) (history new) (λ folder. IsBeginning folder (newest given) (length given.begun) (given.begun ++ events))
+  begun_given opened old given mid new events view is on time same write =
+      subst
+      (λ (s : SeriesView D). is_honest s.opening → s.has_failed ≡ false → LeavesOnly (history s.dir) (history new) (λ folder. IsBeginning folder (newest s) (length s.begun) (s.begun ++ events)))
+      view
+      (λ honest ready.
+      let k = (is.kept honest).honest in
+      begun_write old mid new events k ready is.sound.each (time k.dir) (same k.dir) (write (on k.dir)))
+
+  -- over a write that failed
+  pub keeps_failed : (old : SeriesView D) (new : D) (events next : List Event) → Keeps is_honest history old → is_honest new → Passes (history old.dir) (history new)
+      → LeavesOnly (history old.dir) (history new) (λ folder. IsBeginning folder (newest old) (length old.begun) (old.begun ++ events)) → next ≡ old.begun ++ events
+      → Keeps is_honest history (record old { dir = new; begun = next; has_failed = true })
+  keeps_failed old new events next kept honest passes moments is =
+      keeps_on old (record old { dir = new; begun = next; has_failed = true }) kept honest passes refl refl refl (λ ready. absurd (true≢false ready)) (λ ready. absurd (true≢false ready))
+      (begins_write (history old.opening) (history old.dir) (history new) (newest old) old.begun events next kept.begins moments is)
+
+  -- the newest file after a write, of which room was made before
+  pub file_written : (old : SeriesView D) (mid new : D) (events next : List Event) (bytes : List ℕ) → IsHonest is_honest history old → old.has_failed ≡ false
+      → SameDisk (now (history mid)) (now (history old.dir)) → bytes ≡ run_of events → Changes (newest old) (λ f. flushed (with_bytes bytes f)) (now (history mid)) (now (history new))
+      → next ≡ old.begun ++ events → now (history new) (newest old) ≡ Some (kept_file (run_of next))
+  file_written old mid new events next bytes honest ready same held changes is =
+      let w = honest.written ready in
+      written_file (now (history mid)) (now (history new)) (newest old) bytes old.begun events w.0 (same (newest old) ∙ w.1) held changes
+      ∙ ap (λ (es : List Event). Some (kept_file (run_of es))) (sym is)
+
+  -- over a write that is answered
+  pub keeps_answered : (old : SeriesView D) (new : D) (receipt : StoredView) (stored : List Answer) (events next : List Event) → Keeps is_honest history old → is_honest new
+      → Passes (history old.dir) (history new) → old.has_failed ≡ false → events ≡ under receipt.tag receipt.entries
+      → LeavesOnly (history old.dir) (history new) (λ folder. IsBeginning folder (newest old) (length old.begun) (old.begun ++ events)) → next ≡ old.begun ++ events
+      → stored ≡ record { stored = receipt; since = (history new).moment } ∷ old.stored → AllByRecursion IsEvent next → now (history new) (newest old) ≡ Some (kept_file (run_of next))
+      → Keeps is_honest history (record old { dir = new; begun = next; stored = stored })
+  keeps_answered old new receipt stored events next kept honest passes ready receipt_is moments is stored_is each found =
+      keeps_more old (record old { dir = new; begun = next; stored = stored }) receipt kept honest passes refl refl stored_is ready
+      (is ∙ ap (λ (es : List Event). old.begun ++ es) receipt_is) found (kept_safe (now (history new)) (newest old) next each found)
+      (begins_write (history old.opening) (history old.dir) (history new) (newest old) old.begun events next kept.begins moments is)
+
+  -- the caller's view of an open sink
+  pub honest_given : (old given : SeriesView D) → old ≡ given → is_honest given.opening → is_honest old.opening
+  honest_given old given view = subst (λ (s : SeriesView D). is_honest s.opening) (sym view)
+
+  pub never_both : (old given : SeriesView D) → old ≡ given → old.has_failed ≡ false → given.has_failed ≡ true → ⊥
+  never_both old given view ready failed = true≢false (sym failed ∙ sym (ap (λ (s : SeriesView D). s.has_failed) view) ∙ ready)
+
+  -- a call that leaves the disk as it was, as the caller sees it
+  pub same_given : (opened : Option (List ℕ)) (old given : SeriesView D) (mid : D) (Refused : Type 0) → old ≡ given → IsOpen is_honest history opened old
+      → (is_honest old.dir → SameDisk (now (history mid)) (now (history old.dir))) → is_honest given.opening → Refused → SameDisk (now (history mid)) (now (history given.dir))
+  same_given opened old given mid Refused view is same =
+      subst (λ (s : SeriesView D). is_honest s.opening → Refused → SameDisk (now (history mid)) (now (history s.dir))) view (λ honest _. same (is.kept honest).honest.dir)
+
+  pub rest_safe_given : (opened : Option (List ℕ)) (old given : SeriesView D) (mid : D) → old ≡ given → IsOpen is_honest history opened old
+      → (is_honest old.dir → Elapses (history old.dir) (history mid)) → (is_honest old.dir → SameDisk (now (history mid)) (now (history old.dir))) → is_honest given.opening
+      → (name : List ℕ) (events : List Event) → IsSafe (now (history given.dir)) name events → StaysSafe (history given.dir) (history mid) name events
+  rest_safe_given opened old given mid view is time same =
+      subst (λ (s : SeriesView D). is_honest s.opening → (name : List ℕ) (events : List Event) → IsSafe (now (history s.dir)) name events → StaysSafe (history s.dir) (history mid) name events) view
+      (λ honest name events. let h = (is.kept honest).honest.dir in safe_rests (history old.dir) (history mid) name events (time h) (same h))
+
+  pub rest_others_given : (opened : Option (List ℕ)) (old given : SeriesView D) (mid : D) → old ≡ given → IsOpen is_honest history opened old
+      → (is_honest old.dir → Elapses (history old.dir) (history mid)) → (is_honest old.dir → SameDisk (now (history mid)) (now (history old.dir))) → is_honest given.opening
+      → OthersStay (history given.dir) (history mid) (newest given)
+  rest_others_given opened old given mid view is time same =
+      subst (λ (s : SeriesView D). is_honest s.opening → OthersStay (history s.dir) (history mid) (newest s)) view
+      (λ honest. let h = (is.kept honest).honest.dir in others_rest (history old.dir) (history mid) (newest old) (time h) (same h))
+
+  pub rest_begun_given : (opened : Option (List ℕ)) (old given : SeriesView D) (mid : D) (events : List Event) → old ≡ given → IsOpen is_honest history opened old
+      → (is_honest old.dir → Elapses (history old.dir) (history mid)) → (is_honest old.dir → SameDisk (now (history mid)) (now (history old.dir))) → is_honest given.opening
+      → given.has_failed ≡ false → LeavesOnly (history given.dir) (history mid) (λ folder. IsBeginning folder (newest given) (length given.begun) (given.begun ++ events))
+  rest_begun_given opened old given mid events view is time same =
+      subst
+      (λ (s : SeriesView D). is_honest s.opening → s.has_failed ≡ false → LeavesOnly (history s.dir) (history mid) (λ folder. IsBeginning folder (newest s) (length s.begun) (s.begun ++ events)))
+      view
+      (λ honest ready.
+      let k = (is.kept honest).honest in
+      let w = k.written ready in
+      begun_rests (history old.dir) (history mid) (newest old) old.begun events w.0 w.1 is.sound.each (time k.dir) (same k.dir))
+
+  -- a write, as the caller sees it
+  pub safe_given : (opened : Option (List ℕ)) (old given : SeriesView D) (mid new : D) → old ≡ given → IsOpen is_honest history opened old → (is_honest old.dir → is_honest mid)
+      → (is_honest old.dir → Elapses (history old.dir) (history mid)) → (is_honest old.dir → SameDisk (now (history mid)) (now (history old.dir)))
+      → (is_honest mid → OthersStay (history mid) (history new) (newest old))
+      → (is_honest mid → (name : List ℕ) (events : List Event) → IsSafe (now (history mid)) name events → StaysSafe (history mid) (history new) name events)
+      → is_honest given.opening → (name : List ℕ) (events : List Event) → IsSafe (now (history given.dir)) name events → StaysSafe (history given.dir) (history new) name events
+  safe_given opened old given mid new view is on time same others safe =
+      subst (λ (s : SeriesView D). is_honest s.opening → (name : List ℕ) (events : List Event) → IsSafe (now (history s.dir)) name events → StaysSafe (history s.dir) (history new) name events) view
+      (λ honest.
+      let h = (is.kept honest).honest.dir in
+      (wrote (history old.dir) (history mid) (history new) (newest old) (time h) (same h) (others (on h)) (safe (on h))).safe)
+
+  pub others_given : (opened : Option (List ℕ)) (old given : SeriesView D) (mid new : D) → old ≡ given → IsOpen is_honest history opened old → (is_honest old.dir → is_honest mid)
+      → (is_honest old.dir → Elapses (history old.dir) (history mid)) → (is_honest old.dir → SameDisk (now (history mid)) (now (history old.dir)))
+      → (is_honest mid → OthersStay (history mid) (history new) (newest old)) → is_honest given.opening → OthersStay (history given.dir) (history new) (newest given)
+  others_given opened old given mid new view is on time same others =
+      subst (λ (s : SeriesView D). is_honest s.opening → OthersStay (history s.dir) (history new) (newest s)) view
+      (λ honest. let h = (is.kept honest).honest.dir in others_behind (history old.dir) (history mid) (history new) (newest old) (time h) (same h) (others (on h)))
+
+-- what the folder counted over a call, as the caller sees it
+module _ {D : Type 0} (count : D → ℕ) (old given : SeriesView D) (view : old ≡ given) where
+  pub memory_given : {T : Type 0} (new : D) (r : Result T SeriesFault) → count new ≡ count old.dir → IsErrAnd r (λ y. y ≡ series.Memory) → HasCause (count given.dir) (count new) r
+  memory_given new r same is = memory_cause (count given.dir) (count new) r (same ∙ ap (λ (s : SeriesView D). count s.dir) view) (told series.Memory r is)
+
+  pub ok_given : {T : Type 0} (mid new : D) (x : T) → count new ≡ count mid → count mid ≡ count old.dir → HasCause (count given.dir) (count new) (Ok x)
+  ok_given mid new x passed same = ok_cause (count given.dir) (count new) x (passed ∙ same ∙ ap (λ (s : SeriesView D). count s.dir) view)
+
+  pub refused_given : {T U : Type 0} (mid new : D) (d : DirError) (e : SeriesFault) → HasDirCause {T = T} (count mid) (count new) (Err d) → count mid ≡ count old.dir → e ≡ fault_of d
+      → HasCause {T = U} (count given.dir) (count new) (Err e)
+  refused_given {T = T} mid new d e cause same is =
+      refused_cause {T = T} (count given.dir) (count mid) (count new) (count new) d (Err e) cause (same ∙ ap (λ (s : SeriesView D). count s.dir) view) refl (ap Err is)

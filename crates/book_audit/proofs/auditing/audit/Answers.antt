@@ -2,7 +2,7 @@ use Rattle.std.proofs.Common.{MatchBool, subst}
 use Rattle.book_audit.specs.Audits.{IsAgain, lines_named}
 use Rattle.book_audit.specs.Naming.{AreNamed}
 use Rattle.book_audit.proofs.Again.{all-named, left-out}
-use Rattle.book_audit.proofs.Strangers.{no_stranger}
+use Rattle.book_audit.proofs.Strangers.{double_differs, missing_differs, no_stranger, ok_differs}
 use Rattle.book_audit.proofs.auditing.audit.Goals as goal
 
 pub add_all-requires : goal.add_all-requires
@@ -25,10 +25,10 @@ returns-clause-ok g c =
     }
 
 pub returns-clause-stranger : goal.returns-clause-stranger
-returns-clause-stranger g c = (λ no. absurd (cc), λ some. absurd (no_stranger c.args.leaf c.args.pages.now c.args.stubs.now c.if-not-knows_all.ensures some))
+returns-clause-stranger g c = (λ no. absurd (ok_differs no), λ some. absurd (no_stranger c.args.leaf c.args.pages.now c.args.stubs.now c.if-not-knows_all.ensures some))
 
 pub returns-then-not-are_all_among-clause-stranger : goal.returns-then-not-are_all_among-clause-stranger
-returns-then-not-are_all_among-clause-stranger g c = (λ no. absurd (cc), λ some. absurd (no_stranger c.args.leaf c.args.pages.now c.args.stubs.now c.if-not-knows_all.ensures some))
+returns-then-not-are_all_among-clause-stranger g c = (λ no. absurd (missing_differs no), λ some. absurd (no_stranger c.args.leaf c.args.pages.now c.args.stubs.now c.if-not-knows_all.ensures some))
 
 pub returns-then-not-branch-clause-stranger : goal.returns-then-not-branch-clause-stranger
-returns-then-not-branch-clause-stranger g c = (λ no. absurd (cc), λ some. absurd (no_stranger c.args.leaf c.args.pages.now c.args.stubs.now c.if-not-knows_all.ensures some))
+returns-then-not-branch-clause-stranger g c = (λ no. absurd (double_differs no), λ some. absurd (no_stranger c.args.leaf c.args.pages.now c.args.stubs.now c.if-not-knows_all.ensures some))

@@ -1,5 +1,5 @@
 use Rattle.std.proofs.Common.{Err, subst}
-use Rattle.journal_reading.specs.Placed.{known_from}
+use Rattle.folder_listing.specs.Placed.{known_from}
 use Rattle.event_listing.specs.Forms.{Items}
 use Rattle.event_listing.specs.Reading.{PrintsFile}
 use Rattle.event_listing.proofs.Passes.{pass_ended, pass_stopped, pass_unread}

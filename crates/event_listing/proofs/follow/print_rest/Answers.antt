@@ -1,4 +1,4 @@
-use Rattle.journal_reading.specs.Placed.{known_from}
+use Rattle.folder_listing.specs.Placed.{known_from}
 use Rattle.event_listing.specs.Forms.{Items}
 use Rattle.event_listing.proofs.Pieces.{file_unread}
 use Rattle.event_listing.proofs.follow.print_rest.Goals as goal

@@ -1,6 +1,6 @@
 use Rattle.std.proofs.Common.{subst}
 use Rattle.std.specs.Prelude.{IfSome}
-use Rattle.journal_reading.specs.Findings.{IsInJournal}
+use Rattle.folder_listing.specs.Findings.{IsInJournal}
 use Rattle.event_listing.specs.declared.stop.Stop.TheVariants.{Read}
 use Rattle.event_listing.proofs.Chunks.{journal_damaged, journal_unsealed, none_of_journal}
 use Rattle.event_listing.proofs.journal.print_found.Goals as goal

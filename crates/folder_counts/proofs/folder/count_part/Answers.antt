@@ -1,6 +1,6 @@
 use Rattle.std.proofs.Common.{subst, sym}
 use Rattle.event_listing.specs.Forms.{Items}
-use Rattle.journal_reading.proofs.Fed.{if_known}
+use Rattle.folder_listing.proofs.Fed.{if_known}
 use Rattle.folder_counts.specs.Findings.{IsInSink}
 use Rattle.folder_counts.specs.Folders.{IsCounted, OfSink}
 use Rattle.folder_counts.specs.Tallies.{IsInFile}

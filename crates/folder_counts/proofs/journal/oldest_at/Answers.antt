@@ -1,8 +1,8 @@
 use Rattle.std.proofs.Common.{[], subst}
 use Rattle.std.specs.Prelude.{IfSome}
 use Rattle.event_listing.specs.Forms.{Under}
-use Rattle.journal_reading.specs.Placed.{known_at}
-use Rattle.journal_reading.proofs.Fed.{if_known}
+use Rattle.folder_listing.specs.Placed.{known_at}
+use Rattle.folder_listing.proofs.Fed.{if_known}
 use Rattle.folder_counts.specs.Tallies.{IsInFile, IsOldestIn}
 use Rattle.folder_counts.proofs.Live.{known_new}
 use Rattle.folder_counts.proofs.journal.oldest_at.Goals as goal

@@ -1,8 +1,10 @@
-use Rattle.std.proofs.Common.{◌≡◌, ◌∙◌, Some, sym, ap, refl}
+use Rattle.std.proofs.Common.{◌≡◌, ◌∙◌, Some, None, map, sym, ap, refl, rules}
 use Rattle.conf_text.specs.Views.{tree_of}
 use Rattle.relay_conf.specs.Elements.{settings_of}
-use Rattle.relay_conf.specs.Meaning.{kind_of}
+use Rattle.relay_conf.specs.Meaning.{kind_of, output_of, to_nowhere}
 use Rattle.relay_conf.specs.declared.form.OutputType.TheVariants as outputs
+use Rattle.relay_conf.proofs.Nowhere.{leads_nowhere, tagged_nowhere}
+use Rattle.relay_conf.proofs.outputs.output.Goals.{in_default-via-in-Some+in_default, in_default-via-in_default}
 use Rattle.relay_conf.proofs.outputs.output.Goals as goal
 
 pub returns-in-Some-Relabel : goal.returns-in-Some-Relabel
@@ -22,3 +24,13 @@ returns-in_ok-forward-in-Some-Forward g c =
     let t = tree_of c.args.element.now in
     let kind : kind_of (settings_of t) ≡ Some outputs.Forward = sym (c.kind_of.ensures ∙ ap kind_of c.pairs_of-pairs.ensures) ∙ (c.in-Some-Forward.is ∙ ap (λ (k : outputs.the_data). Some k) c.in-Some-Forward.field-0-is) in
     rw (kind, c.in_ok-forward-in-Some-Forward.ensures, c.line_of-line.ensures) refl
+
+pub returns-in_default : goal.returns-in_default
+returns-in_default g c =
+    let all = map tree_of c.args.elements.now in
+    let t = tree_of c.args.element.now in
+    let kind = c.kind_of.ensures ∙ ap kind_of c.pairs_of-pairs.ensures in
+    elim c.in_default.branch as (λ _. to_nowhere c.line_of-line.result ≡ output_of all c.args.number t) [
+      | in_default-via-in-Some+in_default w ↦ leads_nowhere (Some w.in_default.field-0) all c.args.number c.line_of-line.result t (sym w.in_default.is ∙ kind) c.line_of-line.ensures (search (rules, tagged_nowhere))
+      | in_default-via-in_default w ↦ leads_nowhere None all c.args.number c.line_of-line.result t (sym w.in_default.is ∙ kind) c.line_of-line.ensures refl
+    ]

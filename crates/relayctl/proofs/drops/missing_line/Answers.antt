@@ -1,7 +1,7 @@
 use Rattle.std.proofs.Common.{◌≡◌, ◌≢◌, ap, inl, inr, rules, subst, ◌∙◌}
-use Rattle.deliberate_drops.specs.OneByOne.{IsMeant, IsRefusedAt}
-use Rattle.deliberate_drops.specs.Printed.{error_text}
-use Rattle.deliberate_drops.specs.declared.error.DropError.TheVariants as error
+use Rattle.label_plan.specs.OneByOne.{IsMeant, IsRefusedAt}
+use Rattle.label_plan.specs.Printed.{error_text}
+use Rattle.label_plan.specs.declared.error.DropError.TheVariants as error
 use Rattle.plan_lines.specs.Plans.{network}
 use Rattle.relayctl.specs.Dropping.{drop_fault, name_text}
 use Rattle.relayctl.proofs.drops.missing_line.Goals as goal

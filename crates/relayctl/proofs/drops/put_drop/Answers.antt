@@ -1,8 +1,8 @@
 use Rattle.std.proofs.Common.{rules, ◌≡◌, ◌++◌, ℕ, List, ap, codes, inl, subst, ◌∙◌}
 use Rattle.plan_lines.specs.Plans.{network}
-use Rattle.deliberate_drops.specs.OneByOne.{IsMeant}
+use Rattle.label_plan.specs.OneByOne.{IsMeant}
 use Rattle.relayctl.specs.Dropping.{name_text, IsSaidOf}
-use Rattle.rule_advice.specs.Sites.{site_line}
+use Rattle.plan_advice.specs.Sites.{site_line}
 use Rattle.relayctl.proofs.Dropping.{on_ok}
 use Rattle.relayctl.proofs.drops.put_drop.Goals as goal
 

@@ -2,8 +2,8 @@ use Rattle.std.proofs.Common.{◌≡◌, ◌<◌, ◌++◌, ◌∷◌, [], ℕ, 
 use Rattle.std.proofs.lemmas.List.{get_or-map, length-map, map_more}
 use Rattle.std.specs.Borrow.{Bor}
 use Rattle.program_text.proofs.ListingSteps.{zip_push}
-use Rattle.deliberate_drops.specs.Names.{IsName}
-use Rattle.deliberate_drops.specs.declared.name.DropName.{DropName}
+use Rattle.label_plan.specs.Names.{IsName}
+use Rattle.label_plan.specs.declared.name.DropName.{DropName}
 use Rattle.relayctl.specs.Dropping.{AreNames}
 use Rattle.relayctl.proofs.drops.read_names.Goals as goal
 

@@ -1,5 +1,5 @@
 use Rattle.std.proofs.Common.{rules, ◌≡◌, ◌≢◌, ap, ◌∙◌, inl, inr}
-use Rattle.deliberate_drops.specs.Plans.{IsDroppedPlanOf}
+use Rattle.label_plan.specs.Plans.{IsDroppedPlanOf}
 use Rattle.plan_answers.specs.Networks.{AreRead}
 use Rattle.plan_lines.specs.Faults.{IsRefusal}
 use Rattle.plan_lines.specs.Forms.{confs_named}

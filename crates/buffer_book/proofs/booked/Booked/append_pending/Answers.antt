@@ -12,7 +12,7 @@ use Rattle.book_audit.specs.Audits.{SameLines}
 use Rattle.buffer_book.specs.Books.{Appends, Steady, Unchanged}
 use Rattle.buffer_store.specs.declared.fault.BufferFault.TheVariants as fault
 use Rattle.buffer_state.proofs.Serials.{at_itself}
-use Rattle.buffer_book.proofs.Ends.{told, on_err, kept_at, refuses_as, refuses_after, refuses_none, steady_as, steady_err, steady_ok, steady_memory, unchanged, unchanged_parts, sound_roomy, none_behind, gone_again}
+use Rattle.buffer_book.proofs.Ends.{told, on_err, kept_at, refuses_as, refuses_after, refuses_none, steady_as, steady_err, steady_ok, steady_memory, unchanged, unchanged_parts, sound_again, sound_roomy, none_behind, gone_again}
 use Rattle.buffer_book.proofs.Accounts.{accounted_appended}
 use Rattle.buffer_book.proofs.Answered.{below_of_plan, place_of_plan, put_at}
 use Rattle.buffer_book.proofs.Sound.{sound_pending}
@@ -134,3 +134,25 @@ returns-clause-refused g c = refuses_none c.args.tag.now c.args.entries.now c.ar
 
 pub returns-clause-steady : goal.returns-clause-steady
 returns-clause-steady g c = let s = c.in_default.ensures.rest.rest in subst (λ (b : Book g.row.D.Denot). Steady b.buffer c.stage.new.self (Ok (record { serial = c.in_ok-serial.serial; place = c.self.inside.count }))) c.self.view_is (steady_ok c.self.inside.buffer c.stage.new.self c.in_default.field-0 (Ok c.in_default.field-0) (record { serial = c.in_ok-serial.serial; place = c.self.inside.count }) refl s.failed s.flags s.limits)
+
+pub invariant_of-self-then-is_err : goal.invariant_of-self-then-is_err
+invariant_of-self-then-is_err g c =
+    let i = c.self.inside in (
+      c.self.invariant.0,
+      c.self.invariant.1,
+      subst (λ (w : List (ℕ × Line)). IsSound (book_of i.buffer i.past.first i.past.appends i.past.lines c.reserve.new.self w i.past.synced i.past.removed))
+          (sym (kept_at c.insert.result _ (sym c.is_err.ensures.value ∙ c.if-is_err.true) c.insert.ensures.err))
+          (sound_roomy i.buffer i.past.first i.past.appends i.past.lines i.lines i.waiting.entries i.past.synced i.past.removed c.reserve.new.self c.in_ok-reserve.ensures.same c.reserve.ensures.kept c.self.invariant.2),
+    )
+
+pub invariant_of-self-in-Err : goal.invariant_of-self-in-Err
+invariant_of-self-in-Err g c =
+    let i = c.self.inside in
+    let x : Line = record { delivery = c.args.delivery; serial = c.in_ok-serial.serial; count = c.count.result } in
+    let put = put_at c.insert.result _ _ _ (sym c.is_err.ensures.value ∙ c.if-is_err.false) c.insert.ensures.updates c.insert.ensures.len in (
+      c.self.invariant.0,
+      c.self.invariant.1,
+      sound_again i.buffer i.past.first i.past.appends i.past.lines i.lines i.waiting.entries i.past.synced i.past.removed c.self.invariant.2
+          c.stage.new.self c.reserve.new.self c.insert.new.self.entries c.remove.new.self.entries i.count x c.remove.result c.in-Err.ensures.rest.rest.err c.in_ok-reserve.ensures.same c.reserve.ensures.kept
+          c.self.invariant.0 put.0.0 put.1 c.remove.ensures.value c.remove.ensures.updates.0 c.remove.ensures.len,
+    )

@@ -4,6 +4,7 @@ use Rattle.std.proofs.lemmas.Result.{err_from_is_err_and}
 use Rattle.buffer_state.specs.Steps.{planned}
 use Rattle.buffer_store.specs.declared.fault.BufferFault.TheVariants as fault
 use Rattle.buffer_book.proofs.Answered.{err_of, plan_quiet}
+use Rattle.buffer_book.proofs.Ends.{refuses_not}
 use Rattle.buffer_book.proofs.booked.Booked.plan.Goals as goal
 
 pub returns-in_err-serial-clause-quiet : goal.returns-in_err-serial-clause-quiet
@@ -19,3 +20,7 @@ returns-then-self-clause-refused g c = rw (← c.self.view_is) (record {
   refused = λ going short f at. absurd (cc (sym at ∙ c.in_ok-serial.ensures.place));
   accepted = λ going short s at. inr (inr (refl, (let z = c.if-self.true in let y = c.self.invariant.0 in omega arith)));
 })
+
+pub returns-clause-refused : goal.returns-clause-refused
+returns-clause-refused g c =
+    refuses_not c.args.tag.now c.args.entries.now _ c.args.self.now c.in_ok-serial.serial c.self.view_is (let z = c.if-tag-gt-LONGEST_TAG.false in omega arith) c.in_ok-serial.ensures.place

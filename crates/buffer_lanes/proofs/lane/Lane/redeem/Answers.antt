@@ -1,6 +1,6 @@
-use Rattle.std.proofs.Common.{Vec, inl, inr, refl}
+use Rattle.std.proofs.Common.{Vec, inl, inr, refl, rules}
 use Rattle.ack_receipt.specs.Deliveries.{Pended}
-use Rattle.buffer_lanes.proofs.Redeeming.{begins_fresh, empty_waits, have_receipts, none_wait, wait_on}
+use Rattle.buffer_lanes.proofs.Redeeming.{begins_fresh, empty_waits, gets_none, have_receipts, lost_unless, none_wait, wait_on}
 use Rattle.buffer_lanes.proofs.lane.Lane.redeem.Goals as goal
 
 pub returns-then-is_empty-clause-ok : goal.returns-then-is_empty-clause-ok
@@ -21,3 +21,25 @@ returns-in-Err-Buffer-Memory-default-clause-ok g c =
     (begins_fresh c.args.self.now c.keep.new.self _ c.note_room.new.self _ c.new.result.items c.keep.ensures c.new.ensures.items c.self-2.view_is c.note_room.ensures c.self-3.view_is)
     c.replace.ensures.after c.in-Err-Buffer-Memory-default.ensures.back c.replace-list.ensures.value refl in
     inr (record { later = refl; waiting = wait.0; receipts = wait.1 })
+
+pub returns-in-Err-Buffer-default-clause-terms : goal.returns-in-Err-Buffer-default-clause-terms
+returns-in-Err-Buffer-default-clause-terms g c =
+    (gets_none (λ (v : Vec Pended g.row.A.Denot). v.items) c.args.self.now _ _ c.replace-list.new.dest c.new-2.result
+    (begins_fresh c.args.self.now c.keep.new.self _ c.note_room.new.self _ c.new.result.items c.keep.ensures c.new.ensures.items c.self-2.view_is c.note_room.ensures c.self-3.view_is)
+    refl c.replace-list.ensures.after c.new-2.ensures.items).0
+
+pub returns-in-Err-Buffer-default-clause-plan : goal.returns-in-Err-Buffer-default-clause-plan
+returns-in-Err-Buffer-default-clause-plan g c =
+    (gets_none (λ (v : Vec Pended g.row.A.Denot). v.items) c.args.self.now _ _ c.replace-list.new.dest c.new-2.result
+    (begins_fresh c.args.self.now c.keep.new.self _ c.note_room.new.self _ c.new.result.items c.keep.ensures c.new.ensures.items c.self-2.view_is c.note_room.ensures c.self-3.view_is)
+    refl c.replace-list.ensures.after c.new-2.ensures.items).1
+
+pub returns-in-Err-Buffer-default-clause-err : goal.returns-in-Err-Buffer-default-clause-err
+returns-in-Err-Buffer-default-clause-err g c =
+    (gets_none (λ (v : Vec Pended g.row.A.Denot). v.items) c.args.self.now _ _ c.replace-list.new.dest c.new-2.result
+    (begins_fresh c.args.self.now c.keep.new.self _ c.note_room.new.self _ c.new.result.items c.keep.ensures c.new.ensures.items c.self-2.view_is c.note_room.ensures c.self-3.view_is)
+    refl c.replace-list.ensures.after c.new-2.ensures.items).2
+
+pub returns-in-Err-Buffer-default-clause-told : goal.returns-in-Err-Buffer-default-clause-told
+returns-in-Err-Buffer-default-clause-told g c =
+    lost_unless c.in-Err-Buffer-default.field-0-0 c.in-Err-Buffer-default.fault c.in-Err-Buffer-default.ensures.only c.in-Err-Buffer-default.field-0-0-is (search rules)

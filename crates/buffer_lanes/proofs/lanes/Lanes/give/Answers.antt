@@ -1,6 +1,6 @@
 use Rattle.std.proofs.Common.{◌∙◌, ap}
 use Rattle.buffer_lanes.specs.Lanes.{LaneState, LanesState}
-use Rattle.buffer_lanes.proofs.Keeping.{kept_at}
+use Rattle.buffer_lanes.proofs.Keeping.{kept_at, none_changed}
 use Rattle.buffer_lanes.proofs.lanes.Lanes.give.Goals as goal
 
 pub returns : goal.returns
@@ -22,3 +22,7 @@ returns g c =
       time = ap (λ (s : LanesState _). s.time) was i;
       short = ap (λ (s : LanesState _). s.short) was i;
     }
+
+pub returns-in_err-give : goal.returns-in_err-give
+returns-in_err-give g c =
+    none_changed c.self.inside.lanes.items c.args.buffer.0 c.in-Some.lane.now c.give.new.self _ _ _ _ c.args.self.now c.in-Some.ensures.value c.give.ensures.rest c.self.view_is

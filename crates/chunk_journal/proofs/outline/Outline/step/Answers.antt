@@ -39,6 +39,10 @@ module _ (held behind : List ℕ) (item : Record) (start len fed : ℕ) (b : Beg
   behind_held : length behind ≤ len
   behind_held = omega (arith, shorter_behind (drop start held) behind item b, length-drop start held, e)
 
+  -- the outline's invariant holds where what stands behind the record begins
+  left_held : (n : ℕ) → n ≡ len → (n - length behind ≤ len) × (len ≤ n - length behind + fed)
+  left_held n is = (omega (arith, is), omega (arith, is, behind_fits))
+
 pub overflow_sub-end : goal.overflow_sub-end
 overflow_sub-end g c =
     let held = c.self.inside.held.items in
@@ -66,6 +70,20 @@ overflow_sub-self g c =
     let items : length held ≡ vec_len c.self.inside.held = ap length (sym c.as_slice.ensures.value) ∙ c.as_slice.ensures.len in
     let len : c.len.result ≡ vec_len c.self.inside.held = c.len.ensures in
     subst (λ (n : ℕ). length c.in-Whole.behind.now ≤ n) (sym len) (behind_held held c.in-Whole.behind.now item c.self.inside.start (vec_len c.self.inside.held) c.self.inside.fed b items c.self.invariant)
+
+pub invariant_of-self-in-Whole : goal.invariant_of-self-in-Whole
+invariant_of-self-in-Whole g c =
+    let held = c.self.inside.held.items in
+    let item : Record = parsed_of c.in-Whole.parsed in
+    let back : c.split_at.result.1.now ≡ drop c.self.inside.start held =
+    c.split_at.ensures.back ∙ ap (drop c.self.inside.start) c.as_slice.ensures.value in
+    let b : Begins (drop c.self.inside.start held) item c.in-Whole.behind.now =
+    subst (λ (z : List ℕ). Begins z item c.in-Whole.behind.now) back (rw c.in-Whole.is at c.in_ok-next_record.ensures) in
+    let items : length held ≡ vec_len c.self.inside.held =
+    ap length (sym c.as_slice.ensures.value) ∙ c.as_slice.ensures.len in
+    let len : c.len.result ≡ vec_len c.self.inside.held = c.len.ensures in
+    left_held held c.in-Whole.behind.now item c.self.inside.start (vec_len c.self.inside.held)
+    c.self.inside.fed b items c.self.invariant c.len.result len
 
 pub returns-else-not-branch-clause-shorter : goal.returns-else-not-branch-clause-shorter
 returns-else-not-branch-clause-shorter g c = λ _.

@@ -2,7 +2,7 @@ use Rattle.std.proofs.Common.{[], refl, rules, subst, sym, arith}
 use Rattle.std.proofs.lemmas.Int.{to_z-of_z}
 use mir.Syntax.{w128}
 use mir.Val.{SFits}
-use Rattle.event_json.specs.Events.{IsTimeOf}
+use Rattle.event_listing.specs.Events.{IsTimeOf}
 use Rattle.sink_series.proofs.Onward.{some_case}
 use Rattle.folder_counts.proofs.spelling.StoredSpelling.first.Goals as goal
 

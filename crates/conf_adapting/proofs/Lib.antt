@@ -1,2 +1,0 @@
-pub mod Accounting
-pub mod Accepting

@@ -1,8 +1,0 @@
-use Rattle.std.proofs.Common.{refl, vec_len}
-use Rattle.deliberate_drops.specs.Changes.{PutsOutputs}
-use Rattle.deliberate_drops.proofs.Changing.{changed}
-use Rattle.deliberate_drops.proofs.put.put_in_matches.Goals as goal
-
-pub returns : goal.returns
-returns g c = changed (PutsOutputs c.args.outputs.items) c.args.rule c.args.matches.now.items (vec_len c.args.matches.now) c.index_mut.result.now _
-    c.args.matches.now.ok.0 c.requires c.index_mut.ensures.value (record { patterns_are = refl; line_is = refl; outputs_are = refl })

@@ -1,3 +1,0 @@
-pub mod Json
-pub mod Events
-pub mod Walking

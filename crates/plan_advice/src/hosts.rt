@@ -1,0 +1,44 @@
+//! Sources that listen to their own machine alone, and are forwarded to under another host.
+
+use crate::links::Link;
+use crate::notes::Notes;
+use crate::warned_plan::WarnedPlan;
+use std::alloc::{AllocError, Allocator};
+
+/// Warns of each server whose host is no address of its own machine, while its source listens on
+/// such a one alone. The only error is want of memory.
+pub(crate) fn put_hosts<A: Allocator + Copy>(
+    about: &WarnedPlan<'_, A>,
+    links: &[Link<'_, A>],
+    notes: &mut Notes<A>,
+) -> Result<(), AllocError> {
+    for link in links {
+        let bind = link.source.bind.as_str();
+        let host = link.server.host.as_str();
+        if is_own(bind) && !is_own(host) {
+            put_host(about, link, notes)?;
+        }
+    }
+    Ok(())
+}
+
+// Adds the warning of this server.
+fn put_host<A: Allocator + Copy>(
+    about: &WarnedPlan<'_, A>,
+    link: &Link<'_, A>,
+    notes: &mut Notes<A>,
+) -> Result<(), AllocError> {
+    let bind = link.source.bind.as_str();
+    let host = link.server.host.as_str();
+    let words = format!(in about.alloc;
+        "a server is to be reached as {host}, and its source listens on {bind} alone, which only its own machine reaches: what is sent to {host} doesn't arrive."
+    )?;
+    notes.put_warning(about, words.as_str())?;
+    notes.put_place(about, link.from.place, link.server.line)?;
+    notes.put_place(about, link.to, link.source.line)
+}
+
+// Whether a host is the machine itself, by its text.
+fn is_own(host: &str) -> bool {
+    host == "localhost" || host == "::1" || host.as_bytes().starts_with(b"127.")
+}

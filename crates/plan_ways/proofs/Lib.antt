@@ -1,4 +1,0 @@
-pub mod Adding
-pub mod Searching
-pub mod Sending
-pub mod Among

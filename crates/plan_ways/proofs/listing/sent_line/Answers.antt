@@ -1,5 +1,0 @@
-use Rattle.std.proofs.Common.{rules}
-use Rattle.plan_ways.proofs.listing.sent_line.Goals as goal
-
-pub returns : goal.returns
-returns g c = record { said = c.in_ok-said.said.items; is_said = c.in_ok-said.ensures; text_is = search rules }

@@ -1,7 +1,0 @@
-use Rattle.std.proofs.Common.{◌≡◌, take}
-use Rattle.routed_tags.specs.Routed.{SendsTo}
-use Rattle.plan_ways.specs.Sendings.{Adds, Through}
-use Rattle.plan_ways.proofs.onward.send_all.Given as goal
-
-abbrev pub invariant-loop-leaf : goal.invariant-loop-leaf
-invariant-loop-leaf g l = Adds (Through (λ leaf next. SendsTo l.net l.place leaf.0 next.address × (next.tag ≡ l.tag)) (take l.leaf-index l.leaves)) l.fn.found.items l.found.items

@@ -1,7 +1,0 @@
-use Rattle.std.proofs.Common.{◌≡◌, take}
-use Rattle.relay_net.specs.Network.{address_of_server}
-use Rattle.plan_ways.specs.Sendings.{Adds, Through, sending}
-use Rattle.plan_ways.proofs.onward.send_to.Given as goal
-
-abbrev pub invariant-loop-server : goal.invariant-loop-server
-invariant-loop-server g l = Adds (Through (λ server next. sending (address_of_server server) l.tag ≡ next) (take l.server-index l.servers)) l.fn.found.items l.found.items

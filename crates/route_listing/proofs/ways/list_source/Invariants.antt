@@ -1,8 +1,0 @@
-use Rattle.std.proofs.Common.{map, take}
-use Rattle.std.specs.Prelude.{string_bytes}
-use Rattle.program_text.specs.Listings.{AreListed}
-use Rattle.route_listing.specs.Ways.{IsWayLine}
-use Rattle.route_listing.proofs.ways.list_source.Given as goal
-
-abbrev pub invariant-loop-tag : goal.invariant-loop-tag
-invariant-loop-tag g l = AreListed (IsWayLine l.relay l.source) (map string_bytes (take l.tag-index l.tags)) l.lines.items

@@ -1,0 +1,5 @@
+pub mod Adding
+pub mod Among
+pub mod Searching
+pub mod Seeking
+pub mod Sending

@@ -1,0 +1,4 @@
+pub mod Lines
+pub mod Outputs
+pub mod Sendings
+pub mod Ways
