@@ -3,7 +3,7 @@ use Rattle.std.proofs.Common.{ℕ, ◌≡◌, List, length, Result, Ok, Err, ref
 use Rattle.std.specs.Prelude.{OnErr}
 use Rattle.book_audit.specs.Audits.{SameLines}
 use Rattle.book_audit.specs.declared.line.Line.{Line}
-use Rattle.buffer_book.specs.Books.{Appends, Book, IsWaiting, Unchanged, WritesLine}
+use Rattle.ack_receipt.specs.Books.{Appends, Book, IsWaiting, Unchanged, WritesLine}
 
 abbrev line_at : ℕ → ℕ → ℕ → Line
 line_at delivery serial count = record { delivery = delivery; serial = serial; count = count }

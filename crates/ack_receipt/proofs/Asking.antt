@@ -2,8 +2,8 @@
 use Rattle.std.proofs.Common.{ℕ, ◌≡◌, ◌∙◌, ◌≤◌, ◌<◌, ◌-◌, ◌^◌, ◌⊎◌, inl, inr, List, length, Bool, true, false, Result, Ok, Err, refl, subst, sym}
 use Rattle.std.specs.Prelude.{◌↔◌, OnErr, OnOk}
 use Rattle.std.proofs.lemmas.Bool.{cases_lt}
-use Rattle.buffer_book.specs.Books.{Book, RefusesAppend}
-use Rattle.buffer_book.specs.declared.takes.Takes.{Takes}
+use Rattle.ack_receipt.specs.Books.{Book, RefusesAppend}
+use Rattle.ack_receipt.specs.declared.takes.Takes.{Takes}
 use Rattle.buffer_state.specs.State.{State}
 use Rattle.buffer_state.specs.Steps.{planned}
 use Rattle.buffer_state.specs.declared.limits.Limits.{Limits}

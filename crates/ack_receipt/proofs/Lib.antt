@@ -4,3 +4,8 @@ pub mod Redeem
 pub mod Steady
 pub mod Asking
 pub mod Appending
+pub mod Acknowledged
+pub mod Accounts
+pub mod Sound
+pub mod Answered
+pub mod Ends

@@ -9,8 +9,8 @@ use Rattle.std.proofs.lemmas.List.Quantifiers.{all_pairs_push}
 use Rattle.buffer_state.proofs.Serials.{at_same}
 use Rattle.book_audit.specs.declared.line.Leaf.{Leaf}
 use Rattle.book_audit.specs.declared.line.Line.{Line}
-use Rattle.buffer_book.specs.Books.{waiting_at}
-use Rattle.buffer_book.specs.declared.past.Written.{Written}
+use Rattle.ack_receipt.specs.Books.{waiting_at}
+use Rattle.ack_receipt.specs.declared.past.Written.{Written}
 use Rattle.ack_receipt.specs.Deliveries.{Appended, Pended}
 use Rattle.ack_receipt.specs.Redeeming.{AreApart, AreBefore, AreReceiptsOf, AreWritten, IsRedeemable, numbers_from, origin_of, origin_of_pending, written_of}
 

@@ -5,7 +5,7 @@ use Rattle.std.proofs.lemmas.Bool.{false≢true}
 use Rattle.buffer_store.specs.Buffers.{Held}
 use Rattle.buffer_store.specs.declared.fault.BufferFault.{BufferFault}
 use Rattle.buffer_store.specs.declared.fault.BufferFault.TheVariants.{Failed, Fault, Memory}
-use Rattle.buffer_book.specs.Books.{Steady}
+use Rattle.ack_receipt.specs.Books.{Steady}
 
 pub steady_ok : {D T U : Type 0} (old new : Held D) (one : T) (other : U) → Steady old new (Ok one) → Steady old new (Ok other)
 steady_ok old new one other s = record {

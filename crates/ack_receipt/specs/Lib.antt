@@ -6,3 +6,9 @@ pub mod Terms
 pub mod Redeeming
 pub mod Room
 pub mod Shown
+pub mod Claims
+pub mod Evidences
+pub mod BookShown
+pub mod Told
+pub mod Past
+pub mod Books

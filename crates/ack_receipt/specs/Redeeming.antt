@@ -2,8 +2,8 @@
 use Rattle.std.specs.Prelude.{ℕ, ◌≡◌, ◌≢◌, ◌<◌, ◌+◌, ◌⊎◌, ◌++◌, List, [], ◌∷◌, length, map, All, AllPairs}
 use Rattle.book_audit.specs.declared.line.Leaf.{Leaf}
 use Rattle.book_audit.specs.declared.line.Line.{Line}
-use Rattle.buffer_book.specs.Books.{IsWaiting}
-use Rattle.buffer_book.specs.declared.past.Written.{Written}
+use Rattle.ack_receipt.specs.Books.{IsWaiting}
+use Rattle.ack_receipt.specs.declared.past.Written.{Written}
 use Rattle.buffer_store.specs.declared.fault.BufferFault.TheVariants.{Failed, Fault, Memory}
 use Rattle.ack_receipt.specs.Deliveries.{Appended, Pended}
 use Rattle.ack_receipt.specs.declared.fault.RedeemFault.{RedeemFault}

@@ -1,6 +1,6 @@
 -- What a shared buffer has room for.
 use Rattle.std.specs.Prelude.{ℕ, ◌≡◌, ◌⊎◌, true, List, Ok, Err}
-use Rattle.buffer_book.specs.declared.takes.Takes.{Takes}
+use Rattle.ack_receipt.specs.declared.takes.Takes.{Takes}
 use Rattle.buffer_state.specs.State.{State}
 use Rattle.buffer_state.specs.Steps.{planned}
 use Rattle.buffer_state.specs.declared.limits.Limits.{Limits}

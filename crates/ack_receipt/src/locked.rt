@@ -12,10 +12,10 @@ ghost use Rattle.buffer_state.specs.Steps.{claimed, first_of, queued_last};
 ghost use Rattle.buffer_state.specs.declared.chunk.Stage.TheVariants.{Claimed, Staged};
 ghost use Rattle.buffer_store.specs.Durability.{BeganWell};
 ghost use Rattle.buffer_store.specs.Room.{IsNearlyFull};
-ghost use Rattle.buffer_book.specs.Told.{counts_of};
-ghost use Rattle.buffer_book.specs.Books.{IsWaiting, Removes, Syncs, Unchanged, WantsRenewal, waiting_at};
-ghost use Rattle.buffer_book.specs.Claims.{IsCopied};
-ghost use Rattle.buffer_book.specs.Evidences.{CanCompare, IsFor, Serves, ShowsLike, to_drop};
+ghost use Rattle.ack_receipt.specs.Told.{counts_of};
+ghost use Rattle.ack_receipt.specs.Books.{IsWaiting, Removes, Syncs, Unchanged, WantsRenewal, waiting_at};
+ghost use Rattle.ack_receipt.specs.Claims.{IsCopied};
+ghost use Rattle.ack_receipt.specs.Evidences.{CanCompare, IsFor, Serves, ShowsLike, to_drop};
 ghost use Rattle.ack_receipt.specs.Redeeming.{IsRedeemable, line_of};
 
 mod appending;
@@ -25,8 +25,8 @@ mod redeeming;
 mod shown;
 mod terms;
 
+use crate::{Booked, Claim, Closed, Evidence, PurgeFault, Takes};
 use book_audit::{BookFault, Leaf, Stub};
-use buffer_book::{Booked, Claim, Closed, Evidence, PurgeFault, Takes};
 use buffer_store::{Buffer, BufferFault};
 use disk_files::Dir;
 use event_modes::Entries;
@@ -46,7 +46,7 @@ pub struct LockedBuffer<D: Dir, A: Allocator> {
 }
 
 impl<D: Dir, A: Allocator> Model for LockedBuffer<D, A> {
-    ghost use Rattle.buffer_book.specs.Books.{Book};
+    ghost use Rattle.ack_receipt.specs.Books.{Book};
 
     ghost Value = { Book D };
 

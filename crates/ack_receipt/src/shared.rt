@@ -1,15 +1,15 @@
 //! A buffer that threads share.
 
 ghost use Rattle.std.specs.Prelude.{◌≡◌, ◌<◌, true, length, IfOk, IfErr, IfSome, OnOk};
-ghost use Rattle.buffer_book.specs.Evidences.{IsFor};
+ghost use Rattle.ack_receipt.specs.Evidences.{IsFor};
 ghost use Rattle.ack_receipt.specs.Redeeming.{AreReceiptsOf, IsUnredeemed};
 
 use crate::bell::Bell;
 use crate::delivery::Delivery;
 use crate::fault::RedeemFault;
 use crate::locked::{GivenBack, GivenUp, LockedBuffer, Pending, Receipt, Terms, Unstaged};
+use crate::{Claim, Closed, Evidence, PurgeFault, Takes};
 use book_audit::{BookFault, Leaf, Stub};
-use buffer_book::{Claim, Closed, Evidence, PurgeFault, Takes};
 use buffer_store::{Buffer, BufferFault};
 use disk_files::Dir;
 use event_modes::Entries;

@@ -5,9 +5,9 @@ use Rattle.conf_text.specs.declared.element.Element.{Element}
 use Rattle.conf_text.specs.Views.{tree_of}
 use Rattle.plan_lines.specs.Plans.{IsRelayOfText}
 use Rattle.relay_conf.specs.declared.relay.Relay.{Relay}
-use Rattle.relay_reading.specs.Stops.{IsRelayRead}
-use Rattle.relay_reading.specs.declared.reading.ConfStop.{ConfStop}
-use Rattle.relay_reading.specs.declared.reading.ConfStop.TheVariants as stop
+use Rattle.program_text.specs.Stops.{IsRelayRead}
+use Rattle.program_text.specs.declared.relay_text.ConfStop.{ConfStop}
+use Rattle.program_text.specs.declared.relay_text.ConfStop.TheVariants as stop
 use Rattle.conf_listing.specs.declared.draft.Draft.{Draft}
 use Rattle.conf_listing.specs.Adapting.{behind_mark, IsDraft, IsStopOfLines}
 use Rattle.conf_listing.specs.Answers.{IsDraftOf, IsStopTo}

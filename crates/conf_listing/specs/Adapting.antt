@@ -5,9 +5,9 @@ use Rattle.conf_listing.specs.Items.{all_stand_for, items_of}
 use Rattle.conf_listing.specs.Printed.{all_accepted}
 use Rattle.plan_lines.specs.Plans.{IsRelayOfText}
 use Rattle.relay_conf.specs.declared.relay.Relay.{Relay}
-use Rattle.relay_reading.specs.Stops.{IsConfStop}
-use Rattle.relay_reading.specs.declared.reading.ConfStop.{ConfStop}
-use Rattle.relay_reading.specs.declared.reading.ConfStop.TheVariants as stop
+use Rattle.program_text.specs.Stops.{IsConfStop}
+use Rattle.program_text.specs.declared.relay_text.ConfStop.{ConfStop}
+use Rattle.program_text.specs.declared.relay_text.ConfStop.TheVariants as stop
 use Rattle.conf_listing.specs.declared.draft.Draft.{Draft}
 use Rattle.conf_listing.specs.Lines.{AreLines}
 

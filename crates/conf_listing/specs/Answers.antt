@@ -6,9 +6,9 @@ use Rattle.program_text.specs.Output.{IsPrinted}
 use Rattle.program_text.specs.Texts.{IsTextOf}
 use Rattle.program_text.specs.declared.status.Status.{Status}
 use Rattle.program_text.specs.declared.status.Status.TheVariants.{Done, No}
-use Rattle.relay_reading.specs.Stops.{IsTextStop, PrintsConfStop}
-use Rattle.relay_reading.specs.declared.reading.ConfStop.{ConfStop}
-use Rattle.relay_reading.specs.declared.reading.ConfStop.TheVariants as stop
+use Rattle.program_text.specs.Stops.{IsTextStop, PrintsConfStop}
+use Rattle.program_text.specs.declared.relay_text.ConfStop.{ConfStop}
+use Rattle.program_text.specs.declared.relay_text.ConfStop.TheVariants as stop
 use Rattle.conf_listing.specs.declared.draft.Draft.{Draft}
 use Rattle.conf_listing.specs.Adapting.{behind_mark, DescribesRelay, IsDraft, IsStopOfLines}
 

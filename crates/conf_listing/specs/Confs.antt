@@ -1,7 +1,7 @@
 -- What becomes of a configuration.
 use Rattle.std.specs.Prelude.{ℕ, List}
-use Rattle.relay_reading.specs.declared.reading.ConfStop.{ConfStop}
-use Rattle.relay_reading.specs.declared.reading.ConfStop.TheVariants as stop
+use Rattle.program_text.specs.declared.relay_text.ConfStop.{ConfStop}
+use Rattle.program_text.specs.declared.relay_text.ConfStop.TheVariants as stop
 use Rattle.conf_listing.specs.declared.outcome.AdaptedConf.{AdaptedConf}
 use Rattle.conf_listing.specs.declared.outcome.AdaptedConf.TheVariants as outcome
 use Rattle.conf_listing.specs.Answers.{IsAdapted, IsStopTo, IsUndecided}

@@ -3,7 +3,7 @@ use Rattle.std.specs.Prelude.{◌≡◌, Bool, true, false, ℕ, List, [], ◌�
 use Rattle.std.specs.List.{AllZip, list_any}
 use Rattle.plan_lines.specs.Plans.{texts}
 use Rattle.program_text.specs.Lines.{line}
-use Rattle.relay_reading.specs.Stops.{stop_line}
+use Rattle.program_text.specs.Stops.{stop_line}
 use Rattle.conf_listing.specs.Answers.{IsAdapted}
 use Rattle.conf_listing.specs.Confs.{IsAdaptedConf}
 use Rattle.conf_listing.specs.declared.confs.AdaptedConfs.{AdaptedConfs}

@@ -5,8 +5,9 @@ ghost use Rattle.conf_listing.specs.Answers.{IsAnswer, IsStop, PrintsAdapted};
 
 use crate::conf::adapt_conf;
 use crate::outcome::AdaptedConf;
-use program_text::{CountedRead, ReadFault, Status, put_last, read_whole};
-use relay_reading::{ConfStop, print_conf_stop};
+use program_text::{
+    ConfStop, CountedRead, ReadFault, Status, print_conf_stop, put_last, read_whole,
+};
 use std::alloc::{AllocError, Allocator};
 use std::io::Write;
 

@@ -3,7 +3,7 @@
 ghost use Rattle.std.specs.Prelude.{◌≡◌, map, string_bytes, IfOk, IfErr};
 ghost use Rattle.conf_text.specs.Grammar.{IsConfiguration};
 ghost use Rattle.conf_text.specs.Views.{tree_of};
-ghost use Rattle.relay_reading.specs.Stops.{IsTextStop};
+ghost use Rattle.program_text.specs.Stops.{IsTextStop};
 ghost use Rattle.conf_listing.specs.Answers.{IsStopTo};
 ghost use Rattle.conf_listing.specs.Confs.{IsAdaptedConf};
 
@@ -12,8 +12,7 @@ use crate::mark::behind_mark;
 use crate::outcome::{AdaptedConf, ConfText};
 use crate::reading_back::read_back;
 use conf_text::{ConfError, Element};
-use program_text::ReadFault;
-use relay_reading::ConfStop;
+use program_text::{ConfStop, ReadFault};
 use std::alloc::{AllocError, Allocator};
 
 /// What becomes of a configuration as it runs in Fluentd: a text that a relay reads, where all that

@@ -8,7 +8,7 @@ ghost use Rattle.conf_listing.specs.Networks.{is_faulty, is_stopped, name_line, 
 use crate::adapted::{Names, put_accepting};
 use crate::conf::adapt_conf;
 use crate::outcome::AdaptedConf;
-use relay_reading::stop_line;
+use program_text::stop_line;
 use std::alloc::{AllocError, Allocator};
 
 /// What becomes of the configurations of a plan.

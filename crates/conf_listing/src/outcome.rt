@@ -1,7 +1,7 @@
 //! What becomes of a configuration.
 
 use crate::adapted::Adapted;
-use relay_reading::ConfStop;
+use program_text::ConfStop;
 use std::alloc::Allocator;
 
 /// What becomes of a configuration.

@@ -2,13 +2,13 @@
 
 ghost use Rattle.std.specs.Prelude.{◌≡◌, Some, IfOk, IfErr};
 ghost use Rattle.plan_lines.specs.Plans.{IsRelayOfText};
-ghost use Rattle.relay_reading.specs.Stops.{IsConfStop};
+ghost use Rattle.program_text.specs.Stops.{IsConfStop};
 ghost use Rattle.conf_listing.specs.Adapting.{AreOneKind, IsStopOfLines};
 
 use crate::adapted::Adapted;
 use conf_text::ConfFault;
+use program_text::{ConfStop, read_relay};
 use relay_conf::{Relay, RelayFault};
-use relay_reading::{ConfStop, read_relay};
 use std::alloc::Allocator;
 
 /// The relay that the lines of an adapted configuration describe. Else why there is none, under the

@@ -3,12 +3,12 @@
 use Rattle.std.proofs.Common.{◌≡◌, ℕ, ◌+◌, ◌<◌, ◌≤◌, true, List, Some, slice_get, refl, sym, subst, inl, inr, arith, Contains}
 use Rattle.custody_store.specs.Buffers.{Event, IsInChunk}
 use Rattle.custody_store.proofs.Members.{get-contains}
-use Rattle.message_book.specs.Book.{Message}
-use Rattle.message_book.specs.declared.sender.Sender.{Sender}
-use Rattle.message_book.specs.declared.sender.Sender.TheVariants as sender
+use Rattle.custody_store.specs.Book.{Message}
+use Rattle.custody_store.specs.declared.sender.Sender.{Sender}
+use Rattle.custody_store.specs.declared.sender.Sender.TheVariants as sender
 use Rattle.relay_net.specs.Addresses.{Address}
 use Rattle.relay_net.specs.Network.{Network}
-use Rattle.kept_branches.specs.Branches.{Reaches, IsFromBuffer, KeepsAlong, has, passed, EachKeeps}
+use Rattle.custody_store.specs.Branches.{Reaches, IsFromBuffer, KeepsAlong, has, passed, EachKeeps}
 use Rattle.custody_core.proofs.Serials.{event_of, and_some}
 use Rattle.custody_core.proofs.Safe.{Buffers, Ranking, KeepsAt, IsHeldFrom, lower}
 

@@ -4,8 +4,8 @@ use Rattle.std.proofs.lemmas.Option.{same_Some}
 use Rattle.std.proofs.lemmas.List.Elements.{Contains-append_left}
 use Rattle.custody_store.specs.declared.chunk.Stage.TheVariants.{Staged, Queued}
 use Rattle.custody_store.specs.Buffers.{Event, Chunk, BufferState, CanTake, appended_to}
-use Rattle.message_book.specs.Book.{Message}
-use Rattle.message_book.specs.declared.sender.Sender.TheVariants as sender
+use Rattle.custody_store.specs.Book.{Message}
+use Rattle.custody_store.specs.declared.sender.Sender.TheVariants as sender
 use Rattle.relay_net.specs.Network.{Network, is_in_memory}
 use Rattle.custody_steps.specs.World.{World, with_buffer}
 use Rattle.custody_core.proofs.Serials.{event_of}

@@ -3,7 +3,7 @@ use Rattle.std.proofs.Common.{◌≡◌, ◌≤◌, ℕ, List, length, Some, ref
 use Rattle.relay_net.specs.Addresses.{Address}
 use Rattle.relay_net.specs.Network.{Network, entrance, tag_at}
 use Rattle.relay_net.specs.declared.address.Entrance.{Entrance}
-use Rattle.routed_tags.specs.Routed.{ComesTo, SendsTo, Follows, sent, onward, IsRoutedTag}
+use Rattle.relay_net.specs.Routed.{ComesTo, SendsTo, Follows, sent, onward, IsRoutedTag}
 use Rattle.tag_pattern.specs.Parts.{most_tag_bytes}
 
 -- an event of a message with this tag that was sent to this address

@@ -8,8 +8,8 @@ use Rattle.std.specs.Option.{option_and_then, option_map_or}
 use Rattle.custody_store.specs.declared.chunk.Stage.TheVariants.{Staged, Claimed}
 use Rattle.custody_store.specs.Buffers.{Chunk, BufferState, events_of, started_again}
 use Rattle.custody_store.proofs.Members.{get-contains}
-use Rattle.message_book.specs.Book.{Delivery, ended}
-use Rattle.message_book.specs.declared.sender.Sender.TheVariants as sender
+use Rattle.custody_store.specs.Book.{Delivery, ended}
+use Rattle.custody_store.specs.declared.sender.Sender.TheVariants as sender
 use Rattle.relay_conf.specs.declared.output.Output.{Output}
 use Rattle.relay_conf.specs.declared.output.Server.{Server}
 use Rattle.relay_net.specs.Network.{Network, place_of, output_at, address_of_server, is_in_memory}
@@ -18,10 +18,10 @@ use Rattle.custody_steps.specs.World.{World, with_buffer}
 use Rattle.custody_steps.specs.Steps.{Allowed, effect, Forwards, Stores, DropsOldest, HasQueued, with_stored, forwarded_to, output_named}
 use Rattle.step_lines.specs.declared.step.ChunkName.{ChunkName}
 use Rattle.step_lines.specs.declared.step.Step.TheVariants as step
-use Rattle.kept_branches.proofs.Lists.{some_and}
+use Rattle.custody_store.proofs.Lists.{some_and}
 use Rattle.loss_rules.proofs.Members.{contains-map}
 use Rattle.custody_core.proofs.Serials.{event_of}
-use Rattle.routed_tags.specs.Routed.{SendsTo}
+use Rattle.relay_net.specs.Routed.{SendsTo}
 use Rattle.custody_core.proofs.Lists.{get-map}
 use Rattle.custody_core.proofs.Safe.{Ranking, KeepsAt}
 use Rattle.custody_core.proofs.Ranked.{Labelling, IsTaken, IsKnownDelivery, IsIdOf, IsRanked}

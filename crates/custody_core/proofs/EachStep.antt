@@ -8,8 +8,8 @@ use Rattle.custody_store.specs.declared.chunk.Stage.{Stage}
 use Rattle.custody_store.specs.declared.chunk.Stage.TheVariants.{Staged, Queued, Claimed}
 use Rattle.custody_store.specs.Buffers.{Chunk, BufferState, events_of, without_oldest, started_again}
 use Rattle.custody_store.proofs.Members.{contains-get}
-use Rattle.message_book.specs.Book.{Message, Delivery, Told, ended}
-use Rattle.message_book.specs.declared.sender.Sender.TheVariants as sender
+use Rattle.custody_store.specs.Book.{Message, Delivery, Told, ended}
+use Rattle.custody_store.specs.declared.sender.Sender.TheVariants as sender
 use Rattle.relay_conf.specs.declared.output.Server.{Server}
 use Rattle.relay_net.specs.Network.{Network, place_of, entrance, output_at, is_in_memory}
 use Rattle.relay_net.specs.Outputs.{Keeps, servers_of}
@@ -20,7 +20,7 @@ use Rattle.step_lines.specs.declared.step.ChunkName.{ChunkName}
 use Rattle.step_lines.specs.declared.step.Step.TheVariants as step
 use Rattle.custody_steps.specs.World.{World, with_buffer}
 use Rattle.custody_steps.specs.Steps.{Allowed, effect, CanBegin, IsAnswered, Forwards, Stores, GivesUp, DropsOldest, HasQueued, with_named, with_stored, output_named, forwarded_to, tag_of}
-use Rattle.kept_branches.proofs.Lists.{some_and}
+use Rattle.custody_store.proofs.Lists.{some_and}
 use Rattle.loss_rules.proofs.Members.{contains-map}
 use Rattle.custody_core.proofs.Serials.{event_of}
 use Rattle.custody_core.proofs.Lists.{get-push, get-more, get-set, get-after_set, get-map}

@@ -4,18 +4,18 @@ use Rattle.std.proofs.Common.{◌≡◌, ◌≢◌, ℕ, suc, ◌+◌, ◌≤◌
 use Rattle.std.proofs.lemmas.Option.{same_Some}
 use Rattle.std.proofs.lemmas.List.Elements.{Contains-append_cases, All-contains_itself}
 use Rattle.custody_store.specs.Buffers.{appended_to}
-use Rattle.message_book.specs.Book.{Message, Delivery, Told, newly_acknowledged}
-use Rattle.message_book.specs.declared.sender.Sender.{Sender}
-use Rattle.message_book.specs.declared.sender.Sender.TheVariants as sender
+use Rattle.custody_store.specs.Book.{Message, Delivery, Told, newly_acknowledged}
+use Rattle.custody_store.specs.declared.sender.Sender.{Sender}
+use Rattle.custody_store.specs.declared.sender.Sender.TheVariants as sender
 use Rattle.relay_net.specs.Addresses.{Address}
 use Rattle.relay_net.specs.Network.{Network, entrance, tag_at, address_of_client}
 use Rattle.relay_net.specs.declared.address.Entrance.{Entrance}
-use Rattle.routed_tags.specs.Routed.{ComesTo}
-use Rattle.routed_tags.proofs.Growing.{only_in}
+use Rattle.relay_net.specs.Routed.{ComesTo}
+use Rattle.relay_net.proofs.Growing.{only_in}
 use Rattle.step_lines.specs.declared.step.Step.{Step}
 use Rattle.step_lines.specs.declared.step.Step.TheVariants as step
-use Rattle.kept_branches.specs.Branches.{EachKeeps}
-use Rattle.kept_branches.proofs.Lists.{some_and}
+use Rattle.custody_store.specs.Branches.{EachKeeps}
+use Rattle.custody_store.proofs.Lists.{some_and}
 use Rattle.custody_steps.specs.World.{World, initial_world, with_buffer}
 use Rattle.custody_steps.specs.Steps.{Allowed, effect, Steps, CanAppend, CanAcknowledge}
 use Rattle.custody_steps.proofs.Keeping.{is_of}

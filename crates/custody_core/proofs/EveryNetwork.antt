@@ -10,7 +10,7 @@ use Rattle.custody_steps.specs.Steps.{Allowed, effect, Steps}
 use Rattle.step_lines.specs.declared.step.ChunkName.{ChunkName}
 use Rattle.step_lines.specs.declared.step.Step.{Step}
 use Rattle.step_lines.specs.declared.step.Step.TheVariants as step
-use Rattle.kept_branches.proofs.Lists.{some_and}
+use Rattle.custody_store.proofs.Lists.{some_and}
 use Rattle.custody_core.specs.Custody.{NothingIsLost}
 use Rattle.custody_core.proofs.Serials.{and_some}
 use Rattle.custody_core.proofs.Safe.{Ranking, KeepsAt, safe_held}

@@ -3,13 +3,13 @@ use Rattle.std.proofs.Common.{◌≡◌, ℕ, ◌+◌, ◌<◌, ◌≤◌, true,
 use Rattle.std.proofs.lemmas.Bool.{cases_lt}
 use Rattle.custody_store.specs.declared.chunk.Stage.TheVariants.{Staged}
 use Rattle.custody_store.specs.Buffers.{Event, Chunk, BufferState}
-use Rattle.message_book.specs.Book.{Message, Delivery, Told}
-use Rattle.message_book.specs.declared.sender.Sender.{Sender}
-use Rattle.message_book.specs.declared.sender.Sender.TheVariants as sender
+use Rattle.custody_store.specs.Book.{Message, Delivery, Told}
+use Rattle.custody_store.specs.declared.sender.Sender.{Sender}
+use Rattle.custody_store.specs.declared.sender.Sender.TheVariants as sender
 use Rattle.relay_net.specs.Addresses.{Address}
 use Rattle.relay_net.specs.Network.{Network, address_of_client}
 use Rattle.custody_steps.specs.World.{World, with_buffer}
-use Rattle.kept_branches.proofs.Lists.{some_and}
+use Rattle.custody_store.proofs.Lists.{some_and}
 use Rattle.custody_core.proofs.Borne.{Origin, Bears}
 use Rattle.custody_core.proofs.Serials.{event_of, and_some}
 use Rattle.custody_core.proofs.Safe.{Buffers, Ranking, KeepsAt, IsHeldFrom, IsSafe, IsOther, changed, at_buffer, safe_changed}

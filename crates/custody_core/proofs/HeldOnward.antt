@@ -3,14 +3,14 @@ use Rattle.std.proofs.Common.{◌≡◌, ◌≢◌, ℕ, ◌+◌, ◌<◌, ◌�
 use Rattle.custody_store.specs.declared.chunk.Stage.{Stage}
 use Rattle.custody_store.specs.declared.chunk.Stage.TheVariants.{Staged, Queued, Claimed}
 use Rattle.custody_store.specs.Buffers.{Chunk}
-use Rattle.message_book.specs.Book.{Message}
-use Rattle.message_book.specs.declared.sender.Sender.{Sender}
-use Rattle.message_book.specs.declared.sender.Sender.TheVariants as sender
+use Rattle.custody_store.specs.Book.{Message}
+use Rattle.custody_store.specs.declared.sender.Sender.{Sender}
+use Rattle.custody_store.specs.declared.sender.Sender.TheVariants as sender
 use Rattle.relay_net.specs.Network.{Network, address_of_client}
 use Rattle.custody_steps.specs.Steps.{Steps}
 use Rattle.custody_steps.specs.World.{World, initial_world}
 use Rattle.step_lines.specs.declared.step.Step.{Step}
-use Rattle.kept_branches.proofs.Lists.{some_and}
+use Rattle.custody_store.proofs.Lists.{some_and}
 use Rattle.custody_core.specs.Onward.{KeepsAt, Hands, IsRank, IsHeldFrom, AreHeldOnward, IsLeastAfter}
 use Rattle.custody_core.proofs.Borne.{Origin, borne_routed}
 use Rattle.custody_core.proofs.EveryNetwork.{all_kept}

@@ -21,7 +21,7 @@ use Rattle.loss_rules.specs.declared.label.Reach.{Reach}
 use Rattle.loss_rules.proofs.Passing.{entered-tag}
 use Rattle.loss_rules.proofs.Sites.{site-of}
 use Rattle.loss_rules.specs.SafeWays.{LabelledTagsAreSafe}
-use Rattle.kept_branches.proofs.Lists.{some_and}
+use Rattle.custody_store.proofs.Lists.{some_and}
 use Rattle.custody_store.proofs.Members.{get-contains}
 use Rattle.custody_core.proofs.Serials.{and_some}
 use Rattle.custody_core.proofs.Ranked.{Labelling, IsTaken, IsSentOn, LeadOn}

@@ -11,14 +11,14 @@ use Rattle.relay_net.specs.Addresses.{Address}
 use Rattle.relay_net.specs.Network.{Network, place_of, entrance, tag_at, address_of_client, address_of_server, output_at, is_in_memory}
 use Rattle.relay_net.specs.Outputs.{servers_of}
 use Rattle.relay_net.specs.Ways.{HasLoop}
-use Rattle.routed_tags.specs.Routed.{SendsTo, Follows, sent}
+use Rattle.relay_net.specs.Routed.{SendsTo, Follows, sent}
 use Rattle.custody_store.specs.Buffers.{Event, Chunk, BufferState, with_chunk, events_of, started_again, without_oldest, appended_to}
 use Rattle.custody_store.proofs.Members.{get-contains}
-use Rattle.message_book.specs.Book.{Message, Delivery, Told, ended}
+use Rattle.custody_store.specs.Book.{Message, Delivery, Told, ended}
 use Rattle.custody_steps.specs.World.{World, initial_world, with_buffer}
 use Rattle.custody_steps.specs.Steps.{Allowed, effect, Steps, CanBegin, CanAppend, tag_of, with_named, with_stored, with_delivery, forwarded_to, chunk_named}
 use Rattle.custody_core.specs.Custody.{IsClient, NothingIsMadeUp}
-use Rattle.message_book.specs.declared.sender.Sender.TheVariants as sender
+use Rattle.custody_store.specs.declared.sender.Sender.TheVariants as sender
 use Rattle.step_lines.specs.declared.step.ChunkName.{ChunkName}
 use Rattle.step_lines.specs.declared.step.Step.{Step}
 use Rattle.step_lines.specs.declared.step.Step.TheVariants as step

@@ -6,7 +6,7 @@ use Rattle.custody_store.specs.declared.chunk.Stage.{Stage}
 use Rattle.custody_store.specs.declared.chunk.Stage.TheVariants.{Staged, Queued, Claimed}
 use Rattle.custody_store.specs.Buffers.{Chunk, events_of}
 use Rattle.custody_store.proofs.Members.{contains-get}
-use Rattle.message_book.specs.declared.sender.Sender.TheVariants as sender
+use Rattle.custody_store.specs.declared.sender.Sender.TheVariants as sender
 use Rattle.relay_conf.specs.declared.output.Output.{Output}
 use Rattle.relay_conf.specs.declared.output.Output.TheVariants as output
 use Rattle.relay_net.specs.Network.{Network, place_of, output_at}
@@ -15,8 +15,8 @@ use Rattle.custody_steps.specs.World.{World}
 use Rattle.custody_steps.specs.Steps.{Allowed, effect, OfChunk, IsAnswered, Forwards, Stores, GivesUp, DropsOldest, with_named, with_stored, output_named}
 use Rattle.step_lines.specs.declared.step.ChunkName.{ChunkName}
 use Rattle.step_lines.specs.declared.step.Step.TheVariants as step
-use Rattle.routed_tags.specs.Routed.{SendsTo, Follows}
-use Rattle.kept_branches.proofs.Lists.{some_and}
+use Rattle.relay_net.specs.Routed.{SendsTo, Follows}
+use Rattle.custody_store.proofs.Lists.{some_and}
 use Rattle.custody_core.proofs.Borne.{borne_onward, borne_on}
 use Rattle.custody_core.proofs.Safe.{Ranking, KeepsAt}
 use Rattle.custody_core.proofs.Ranked.{Labelling, AreSafeOnward, IsRanked}

@@ -2,9 +2,9 @@
 use Rattle.std.proofs.Common.{◌≡◌, ◌≢◌, ℕ, ◌+◌, ◌<◌, ◌≤◌, true, List, length, Some, None, slice_get, Contains, IsSomeAnd}
 use Rattle.custody_store.specs.declared.chunk.Stage.TheVariants.{Staged}
 use Rattle.custody_store.specs.Buffers.{Chunk, BufferState}
-use Rattle.message_book.specs.Book.{Message, Delivery, Told}
-use Rattle.message_book.specs.declared.sender.Sender.{Sender}
-use Rattle.message_book.specs.declared.sender.Sender.TheVariants as sender
+use Rattle.custody_store.specs.Book.{Message, Delivery, Told}
+use Rattle.custody_store.specs.declared.sender.Sender.{Sender}
+use Rattle.custody_store.specs.declared.sender.Sender.TheVariants as sender
 use Rattle.relay_conf.specs.declared.output.Output.{Output}
 use Rattle.relay_conf.specs.declared.output.Server.{Server}
 use Rattle.relay_net.specs.Addresses.{Address}
@@ -14,7 +14,7 @@ use Rattle.relay_net.specs.Ways.{table_at}
 use Rattle.relay_net.specs.declared.address.Entrance.{Entrance}
 use Rattle.relay_net.specs.declared.node.Client.{Client}
 use Rattle.route_graph.specs.Ways.{HaveTag, IsLeaf, IsLoop}
-use Rattle.routed_tags.specs.Routed.{SendsTo}
+use Rattle.relay_net.specs.Routed.{SendsTo}
 use Rattle.custody_steps.specs.World.{World}
 use Rattle.custody_core.proofs.Borne.{Origin, Bears}
 use Rattle.custody_core.proofs.Safe.{Buffers, Ranking, KeepsAt, IsSafe}

@@ -4,9 +4,9 @@ use Rattle.std.proofs.Common.{◌≡◌, ◌≢◌, ℕ, ◌<◌, ◌≤◌, Boo
 use Rattle.std.proofs.lemmas.Option.{same_Some}
 use Rattle.std.proofs.lemmas.List.Elements.{Contains-append_cases}
 use Rattle.custody_store.specs.Buffers.{appended_to}
-use Rattle.message_book.specs.Book.{Message, Delivery, Told, ended, newly_acknowledged}
-use Rattle.message_book.specs.declared.sender.Sender.{Sender}
-use Rattle.message_book.specs.declared.sender.Sender.TheVariants as sender
+use Rattle.custody_store.specs.Book.{Message, Delivery, Told, ended, newly_acknowledged}
+use Rattle.custody_store.specs.declared.sender.Sender.{Sender}
+use Rattle.custody_store.specs.declared.sender.Sender.TheVariants as sender
 use Rattle.relay_net.specs.Addresses.{Address}
 use Rattle.relay_net.specs.Network.{Network, entrance, address_of_client}
 use Rattle.relay_net.specs.Ways.{HasLoop, table_at}
@@ -14,9 +14,9 @@ use Rattle.route_graph.specs.Ways.{HaveTag, IsLeaf}
 use Rattle.custody_steps.specs.World.{World, with_buffer}
 use Rattle.custody_steps.specs.Steps.{Allowed, effect, CanBegin, CanAppend, CanAcknowledge, tag_of}
 use Rattle.step_lines.specs.declared.step.Step.TheVariants as step
-use Rattle.kept_branches.proofs.Lists.{some_and}
+use Rattle.custody_store.proofs.Lists.{some_and}
 use Rattle.loss_rules.proofs.Members.{map-contains}
-use Rattle.routed_tags.proofs.Growing.{only_in}
+use Rattle.relay_net.proofs.Growing.{only_in}
 use Rattle.custody_steps.proofs.Keeping.{is_of}
 use Rattle.custody_core.proofs.Borne.{IsBorne, borne_first}
 use Rattle.custody_core.proofs.Serials.{and_some}

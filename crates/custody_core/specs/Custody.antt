@@ -3,11 +3,11 @@ use Rattle.std.specs.Prelude.{ℕ, All, Any, Contains}
 use Rattle.custody_store.specs.Buffers.{Event}
 use Rattle.loss_rules.specs.declared.label.Duty.{Duty}
 use Rattle.loss_rules.specs.declared.label.Duty.TheVariants as duty
-use Rattle.message_book.specs.Book.{Message, Told}
-use Rattle.message_book.specs.declared.sender.Sender.{Sender}
-use Rattle.message_book.specs.declared.sender.Sender.TheVariants as sender
+use Rattle.custody_store.specs.Book.{Message, Told}
+use Rattle.custody_store.specs.declared.sender.Sender.{Sender}
+use Rattle.custody_store.specs.declared.sender.Sender.TheVariants as sender
 use Rattle.relay_net.specs.Network.{Network}
-use Rattle.routed_tags.specs.Routed.{IsRoutedTag}
+use Rattle.relay_net.specs.Routed.{IsRoutedTag}
 use Rattle.custody_steps.specs.Branches.{IsKeptEvery}
 use Rattle.custody_steps.specs.Held.{IsKept}
 use Rattle.custody_steps.specs.World.{World}

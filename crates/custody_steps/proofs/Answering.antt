@@ -6,9 +6,9 @@ use Rattle.std.proofs.lemmas.List.Folds.{list_any-append}
 use Rattle.custody_store.specs.Contents.{Contents, flag_at, buffer_of, IsAnsweredToo}
 use Rattle.custody_store.specs.Places.{contents_at, closed_at, IsChangedAt}
 use Rattle.custody_store.specs.declared.places.Places.{Places}
-use Rattle.message_book.specs.Book.{Message, Book, changed_at, acknowledged_message}
-use Rattle.message_book.specs.declared.sender.Sender.{Sender}
-use Rattle.message_book.specs.declared.sender.Sender.TheVariants as sender
+use Rattle.custody_store.specs.Book.{Message, Book, changed_at, acknowledged_message}
+use Rattle.custody_store.specs.declared.sender.Sender.{Sender}
+use Rattle.custody_store.specs.declared.sender.Sender.TheVariants as sender
 use Rattle.custody_steps.specs.Answers.{is_from, is_answer}
 use Rattle.custody_steps.specs.WorldOf.{world_from, deliveries_from}
 use Rattle.custody_steps.proofs.Delivered.{changed_at-there}

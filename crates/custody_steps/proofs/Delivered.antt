@@ -2,7 +2,7 @@
 use Rattle.std.proofs.Common.{◌≡◌, ℕ, zero, suc, ◌<◌, List, [], ◌∷◌, ◌++◌, length, Option, Some, None, slice_get, slice_set, refl, sym, ap, ◌∙◌, arith, inl, inr, ◌⊎◌}
 use Rattle.std.specs.Option.{option_map_or}
 use Rattle.std.proofs.lemmas.List.{length_push}
-use Rattle.message_book.specs.Book.{Message, Delivery, changed_at, acknowledged_message, appended_to_buffer, ended}
+use Rattle.custody_store.specs.Book.{Message, Delivery, changed_at, acknowledged_message, appended_to_buffer, ended}
 use Rattle.relay_net.specs.Network.{Network}
 use Rattle.relay_net.specs.Ways.{HasLoop}
 use Rattle.custody_steps.specs.Open.{AreOfMessages, HaveNoLoops}

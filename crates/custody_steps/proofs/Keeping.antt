@@ -8,9 +8,9 @@ use Rattle.custody_store.specs.Buffers.{CanTake, appended_to}
 use Rattle.custody_store.specs.Contents.{Contents, flag_at, taken_in, buffer_of, IsAnsweredToo}
 use Rattle.custody_store.specs.Places.{contents_at, closed_at, IsChangedAt, AreSame}
 use Rattle.custody_store.specs.declared.places.Places.{Places}
-use Rattle.kept_branches.proofs.Lists.{some_and}
-use Rattle.message_book.specs.Book.{Message, Delivery, Told, Book, changed_at, acknowledged_message, appended_to_buffer}
-use Rattle.message_book.specs.declared.sender.Sender.TheVariants as sender
+use Rattle.custody_store.proofs.Lists.{some_and}
+use Rattle.custody_store.specs.Book.{Message, Delivery, Told, Book, changed_at, acknowledged_message, appended_to_buffer}
+use Rattle.custody_store.specs.declared.sender.Sender.TheVariants as sender
 use Rattle.relay_net.specs.Network.{Network}
 use Rattle.relay_net.specs.Ways.{HasLoop}
 use Rattle.relay_net.specs.declared.address.Entrance.{Entrance}

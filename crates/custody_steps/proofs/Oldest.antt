@@ -9,7 +9,7 @@ use Rattle.custody_store.specs.declared.chunk.Stage.{Stage}
 use Rattle.custody_store.specs.declared.chunk.Stage.TheVariants.{Staged, Queued, Claimed}
 use Rattle.custody_store.specs.declared.places.Places.{Places}
 use Rattle.custody_store.proofs.ChunksAt.{buffer_of-changed}
-use Rattle.message_book.specs.Book.{Book}
+use Rattle.custody_store.specs.Book.{Book}
 use Rattle.custody_steps.specs.Steps.{HasQueued}
 use Rattle.custody_steps.specs.World.{World, with_buffer}
 use Rattle.custody_steps.specs.WorldOf.{world_from}

@@ -3,7 +3,7 @@ use Rattle.std.proofs.Common.{◌≡◌, ℕ, [], Some, slice_get, sym, ap, subs
 use Rattle.custody_store.specs.Contents.{Contents, flag_at, empty_contents}
 use Rattle.custody_store.specs.Places.{contents_at, closed_at}
 use Rattle.custody_store.specs.declared.places.Places.{Places}
-use Rattle.message_book.specs.Book.{Book, empty_book}
+use Rattle.custody_store.specs.Book.{Book, empty_book}
 use Rattle.relay_net.specs.Network.{Network}
 use Rattle.custody_steps.proofs.Keeping.{Known}
 

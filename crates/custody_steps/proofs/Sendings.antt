@@ -2,7 +2,7 @@
 use Rattle.std.proofs.Common.{◌≡◌, ℕ, ◌<◌, length, true, false, List, Option, Some, None, Err, refl, sym, ◌∙◌, arith, is_some, option_map, slice_get}
 use Rattle.std.proofs.lemmas.Bool.{false≢true}
 use Rattle.std.proofs.lemmas.Option.{slice_get_within}
-use Rattle.message_book.specs.Book.{Message}
+use Rattle.custody_store.specs.Book.{Message}
 use Rattle.relay_net.specs.Network.{Network, entrance}
 use Rattle.relay_net.specs.Ways.{HasLoop}
 use Rattle.relay_net.specs.declared.address.Entrance.{Entrance}

@@ -1,7 +1,7 @@
 -- What is answered of an event that was acknowledged to a client.
 use Rattle.std.proofs.Common.{◌≡◌, ◌↔◌, ℕ, Bool, false, List, Option, Some, None, IsTrue, IsSomeAnd, slice_get, sym, subst}
 use Rattle.std.proofs.lemmas.Bool.{false≢true}
-use Rattle.message_book.specs.Book.{Told}
+use Rattle.custody_store.specs.Book.{Told}
 use Rattle.relay_net.specs.Addresses.{Address}
 use Rattle.relay_net.specs.Network.{Network, address_of_client}
 use Rattle.relay_net.specs.declared.node.Client.{Client}

@@ -13,7 +13,7 @@ use Rattle.custody_store.specs.declared.chunk.Look.{Look}
 use Rattle.custody_store.specs.declared.places.Place.{Place}
 use Rattle.custody_store.specs.declared.places.Places.{Places}
 use Rattle.custody_store.proofs.ChunksAt.{chunk_at-push, chunk_at_past, chunk_at_within, buffer_of-changed}
-use Rattle.message_book.specs.Book.{Message, Book, ended}
+use Rattle.custody_store.specs.Book.{Message, Book, ended}
 use Rattle.relay_net.specs.Network.{Network, is_in_memory}
 use Rattle.step_lines.specs.declared.step.ChunkName.{ChunkName}
 use Rattle.custody_steps.specs.Answers.{is_answer}

@@ -1,8 +1,8 @@
 -- Acknowledgements that were given to chunks.
 use Rattle.std.specs.Prelude.{ℕ, ◌==◌, ◌&&◌, Bool, false}
-use Rattle.message_book.specs.Book.{Message}
-use Rattle.message_book.specs.declared.sender.Sender.{Sender}
-use Rattle.message_book.specs.declared.sender.Sender.TheVariants as sender
+use Rattle.custody_store.specs.Book.{Message}
+use Rattle.custody_store.specs.declared.sender.Sender.{Sender}
+use Rattle.custody_store.specs.declared.sender.Sender.TheVariants as sender
 
 -- it was sent from the chunk with this id
 abbrev pub is_from : ℕ → ℕ → ℕ → Sender → Bool

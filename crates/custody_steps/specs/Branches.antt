@@ -1,8 +1,8 @@
 -- What is kept along each branch.
 use Rattle.std.specs.Prelude.{◌≡◌, ◌↔◌, ℕ, Bool, true, false, Option, None, slice_get, IsTrue, IsSomeAnd, MatchOption}
 use Rattle.custody_store.specs.Buffers.{Event}
-use Rattle.kept_branches.specs.Branches.{EachKeeps}
-use Rattle.message_book.specs.Book.{Told}
+use Rattle.custody_store.specs.Branches.{EachKeeps}
+use Rattle.custody_store.specs.Book.{Told}
 use Rattle.relay_net.specs.Addresses.{Address}
 use Rattle.relay_net.specs.Network.{Network, address_of_client}
 use Rattle.custody_steps.specs.Held.{HeldAs}

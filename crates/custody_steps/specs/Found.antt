@@ -3,7 +3,7 @@ use Rattle.std.specs.Prelude.{◌≡◌, ℕ, ◌++◌, ◌∷◌, true, false, 
 use Rattle.std.specs.Option.{option_and_then, option_map_or}
 use Rattle.custody_store.specs.Buffers.{Chunk, with_chunk, events_of}
 use Rattle.custody_store.specs.Contents.{look_of}
-use Rattle.message_book.specs.declared.sender.Sender.TheVariants as sender
+use Rattle.custody_store.specs.declared.sender.Sender.TheVariants as sender
 use Rattle.relay_net.specs.Addresses.{Address}
 use Rattle.relay_net.specs.Network.{Network, place_of}
 use Rattle.step_lines.specs.declared.step.ChunkName.{ChunkName}

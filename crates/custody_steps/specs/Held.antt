@@ -1,10 +1,10 @@
 -- What a network holds.
 use Rattle.std.specs.Prelude.{◌≡◌, ◌↔◌, ℕ, Bool, List, Option, None, slice_get, IsTrue, IsSomeAnd, MatchOption}
 use Rattle.custody_store.specs.Buffers.{Event, Holds}
-use Rattle.message_book.specs.Book.{Told}
+use Rattle.custody_store.specs.Book.{Told}
 use Rattle.relay_net.specs.Addresses.{Address}
 use Rattle.relay_net.specs.Network.{Network, address_of_client}
-use Rattle.routed_tags.specs.Routed.{IsRoutedTag}
+use Rattle.relay_net.specs.Routed.{IsRoutedTag}
 use Rattle.custody_steps.specs.World.{World}
 
 -- The event is in a live chunk of some buffer, or in a sink.

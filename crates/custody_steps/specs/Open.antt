@@ -1,6 +1,6 @@
 -- What is known of every delivery: it is of a message that was sent, and that has no loop.
 use Rattle.std.specs.Prelude.{◌≡◌, ◌<◌, ℕ, List, length, Some, slice_get}
-use Rattle.message_book.specs.Book.{Message, Delivery}
+use Rattle.custody_store.specs.Book.{Message, Delivery}
 use Rattle.relay_net.specs.Network.{Network}
 use Rattle.relay_net.specs.Ways.{HasLoop}
 

@@ -4,9 +4,9 @@ use Rattle.std.specs.Option.{option_and_then, option_map_or}
 use Rattle.custody_store.specs.Buffers.{Event, Chunk, BufferState, with_chunk, events_of, CanTake, appended_to, without_oldest, started_again}
 use Rattle.custody_store.specs.declared.chunk.Stage.{Stage}
 use Rattle.custody_store.specs.declared.chunk.Stage.TheVariants.{Staged, Queued, Claimed}
-use Rattle.message_book.specs.Book.{Message, Delivery, ended, newly_acknowledged}
-use Rattle.message_book.specs.declared.sender.Sender.{Sender}
-use Rattle.message_book.specs.declared.sender.Sender.TheVariants as sender
+use Rattle.custody_store.specs.Book.{Message, Delivery, ended, newly_acknowledged}
+use Rattle.custody_store.specs.declared.sender.Sender.{Sender}
+use Rattle.custody_store.specs.declared.sender.Sender.TheVariants as sender
 use Rattle.relay_conf.specs.declared.buffer.OverflowAction.TheVariants.{DropOldestChunk}
 use Rattle.relay_conf.specs.declared.output.Output.{Output}
 use Rattle.relay_conf.specs.declared.output.Output.TheVariants as output

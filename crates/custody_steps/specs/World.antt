@@ -1,7 +1,7 @@
 -- The state of a whole network: what its buffers and sinks hold, and all that was ever sent.
 use Rattle.std.specs.Prelude.{ℕ, ◌==◌, ◌&&◌, cond, List, []}
 use Rattle.custody_store.specs.Buffers.{BufferState, empty_buffer}
-use Rattle.message_book.specs.Book.{Message, Delivery, Told}
+use Rattle.custody_store.specs.Book.{Message, Delivery, Told}
 
 -- the whole network at one time
 pub record World : Type 0 where

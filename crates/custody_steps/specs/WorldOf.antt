@@ -3,7 +3,7 @@ use Rattle.std.specs.Prelude.{ℕ, suc, ◌&&◌, not, List, [], ◌∷◌, nat_
 use Rattle.custody_store.specs.Contents.{buffer_of}
 use Rattle.custody_store.specs.Places.{contents_at, closed_at}
 use Rattle.custody_store.specs.declared.places.Places.{Places}
-use Rattle.message_book.specs.Book.{Delivery, Book}
+use Rattle.custody_store.specs.Book.{Delivery, Book}
 use Rattle.relay_net.specs.Network.{Network}
 use Rattle.custody_steps.specs.World.{World}
 use Rattle.custody_steps.specs.declared.world.World.{World as Kept}

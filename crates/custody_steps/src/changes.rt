@@ -6,8 +6,7 @@ ghost use Rattle.std.specs.Option.{ForSome};
 
 use crate::found::Found;
 use crate::world::World;
-use custody_store::Stage;
-use message_book::Sender;
+use custody_store::{Sender, Stage};
 use std::alloc::{AllocError, Allocator};
 
 impl<'n, A: Allocator + Copy> World<'n, A> {

@@ -6,15 +6,12 @@ ghost use Rattle.custody_store.specs.Contents.{flag_at, stored_events};
 ghost use Rattle.custody_store.specs.Places.{contents_at, closed_at};
 ghost use Rattle.custody_steps.specs.Answers.{is_answer};
 ghost use Rattle.custody_steps.specs.Open.{AreOfMessages, HaveNoLoops};
-ghost use Rattle.message_book.specs.Book.{told_events};
+ghost use Rattle.custody_store.specs.Book.{told_events};
 
 use crate::fault::StepFault;
 use crate::found::Found;
-use custody_store::{Event, Places, Spot, Spots, Stage};
-use kept_branches::each_branch_keeps;
-use message_book::{Acknowledged, Book};
-use relay_net::Net;
-use routed_tags::is_routed_tag;
+use custody_store::{Acknowledged, Book, Event, Places, Spot, Spots, Stage, each_branch_keeps};
+use relay_net::{Net, is_routed_tag};
 use std::alloc::{AllocError, Allocator};
 use step_lines::{ChunkName, Step};
 
@@ -37,8 +34,8 @@ pub struct World<'n, A: Allocator> {
 impl<'n, A: Allocator + Copy> World<'n, A> {
     ghost use Rattle.custody_steps.specs.Found.{IsFound};
     ghost use Rattle.custody_store.specs.Contents.{event_of};
-    ghost use Rattle.routed_tags.specs.Routed.{IsRoutedTag};
-    ghost use Rattle.kept_branches.specs.Branches.{EachKeeps};
+    ghost use Rattle.relay_net.specs.Routed.{IsRoutedTag};
+    ghost use Rattle.custody_store.specs.Branches.{EachKeeps};
     ghost use Rattle.custody_steps.specs.Branches.{IsKeptEveryAnswer, IsKeptSoAnswer, KeepsSo};
     ghost use Rattle.custody_steps.specs.Held.{Held, HeldAs, IsKeptAnswer};
     ghost use Rattle.custody_steps.specs.Steps.{Answers, Names, Allowed, IsRefused, chunk_named, effect, sink_named};

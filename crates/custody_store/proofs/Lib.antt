@@ -4,3 +4,7 @@ pub mod ChunksAt
 pub mod Members
 pub mod PlaceLists
 pub mod Slots
+pub mod BookChanges
+pub mod Leaves
+pub mod Lists
+pub mod Settling

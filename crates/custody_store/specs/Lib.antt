@@ -5,3 +5,6 @@ pub mod Marks
 pub mod PlaceLists
 pub mod Places
 pub mod Tags
+pub mod Book
+pub mod Branches
+pub mod Searches

@@ -1,7 +1,7 @@
 -- One lawful act more.
 use Rattle.std.proofs.Common.{◌≡◌, ℕ, List, ◌∷◌, sym, subst}
-use Rattle.buffer_book.specs.Claims.{Claimed}
-use Rattle.buffer_book.specs.Evidences.{Shows}
+use Rattle.ack_receipt.specs.Claims.{Claimed}
+use Rattle.ack_receipt.specs.Evidences.{Shows}
 use Rattle.flush_pool.specs.Acts.{Act, Place, Post}
 use Rattle.flush_pool.specs.Laws.{AreLawful, IsVouched, May}
 

@@ -1,8 +1,8 @@
 -- How several workers ended, from how each did.
 use Rattle.std.proofs.Common.{◌≡◌, ◌+◌, ℕ, sym, subst, Result, Ok}
 use Rattle.buffer_store.specs.declared.fault.BufferFault.{BufferFault}
-use Rattle.buffer_book.specs.Claims.{Claimed}
-use Rattle.buffer_book.specs.Evidences.{Shows}
+use Rattle.ack_receipt.specs.Claims.{Claimed}
+use Rattle.ack_receipt.specs.Evidences.{Shows}
 use Rattle.flush_pool.specs.declared.worked.Worked.{Worked}
 use Rattle.flush_pool.specs.Acts.{Post}
 use Rattle.flush_pool.specs.Counts.{none}

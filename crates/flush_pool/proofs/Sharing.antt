@@ -15,8 +15,8 @@ use Rattle.chunk_journal.specs.contracts.places.Places as Places
 use Rattle.journal_files.specs.contracts.journal.Journal as Journal
 use Rattle.buffer_store.specs.contracts.log.Log as Log
 use Rattle.buffer_store.specs.contracts.buffer.Buffer as Buffer
-use Rattle.buffer_book.specs.contracts.past.Past as Past
-use Rattle.buffer_book.specs.contracts.booked.Booked as Booked
+use Rattle.ack_receipt.specs.contracts.past.Past as Past
+use Rattle.ack_receipt.specs.contracts.booked.Booked as Booked
 use Rattle.ack_receipt.specs.contracts.locked.LockedBuffer as Locked
 use Rattle.ack_receipt.specs.contracts.locked.terms.Terms as Terms
 use Rattle.ack_receipt.specs.contracts.shared.SharedBuffer as Shared

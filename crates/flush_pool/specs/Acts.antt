@@ -1,7 +1,7 @@
 -- What a worker does at a shared buffer, one act after another.
 use Rattle.std.specs.Prelude.{ℕ, Bool, List, [], ◌∷◌, Option, None, Some}
-use Rattle.buffer_book.specs.declared.fault.PurgeFault.{PurgeFault}
-use Rattle.buffer_book.specs.Evidences.{Shows}
+use Rattle.ack_receipt.specs.declared.book_fault.PurgeFault.{PurgeFault}
+use Rattle.ack_receipt.specs.Evidences.{Shows}
 use Rattle.ack_receipt.specs.Terms.{Terms}
 use Rattle.retry_waits.specs.declared.settings.RetrySettings.{RetrySettings}
 use Rattle.flush_pool.specs.declared.fault.CarryFault.{CarryFault}

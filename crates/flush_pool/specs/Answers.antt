@@ -1,8 +1,8 @@
 -- What an act leaves, by what came of it.
 use Rattle.std.specs.Prelude.{ℕ, ◌≡◌, Option, Some, None, Result, Ok, Err}
-use Rattle.buffer_book.specs.Claims.{Claimed}
-use Rattle.buffer_book.specs.Evidences.{Shows}
-use Rattle.buffer_book.specs.declared.fault.PurgeFault.{PurgeFault}
+use Rattle.ack_receipt.specs.Claims.{Claimed}
+use Rattle.ack_receipt.specs.Evidences.{Shows}
+use Rattle.ack_receipt.specs.declared.book_fault.PurgeFault.{PurgeFault}
 use Rattle.flush_pool.specs.declared.fault.CarryFault.{CarryFault}
 use Rattle.flush_pool.specs.Acts as acts
 use Rattle.flush_pool.specs.Acts.{Place, did}

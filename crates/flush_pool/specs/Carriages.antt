@@ -1,8 +1,8 @@
 -- What a sink's courier gives for a chunk.
 use Rattle.std.specs.Prelude.{ℕ, ◌≡◌, List, length}
 use Rattle.sink_series.specs.Views.{StoredView}
-use Rattle.buffer_book.specs.Claims.{Claimed, id_of}
-use Rattle.buffer_book.specs.Evidences.{Shows, StoredAs}
+use Rattle.ack_receipt.specs.Claims.{Claimed, id_of}
+use Rattle.ack_receipt.specs.Evidences.{Shows, StoredAs}
 
 -- a sink as it was opened: its folder as it was then, and its path
 pub record Opened (S : Type 0) : Type 0 where

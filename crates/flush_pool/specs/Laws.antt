@@ -4,11 +4,11 @@ use Rattle.event_modes.specs.declared.chunk_id.ChunkId.{ChunkId}
 use Rattle.book_audit.specs.declared.line.Leaf.{Leaf}
 use Rattle.buffer_store.specs.declared.fault.BufferFault.{BufferFault}
 use Rattle.buffer_store.specs.declared.fault.BufferFault.TheVariants as store
-use Rattle.buffer_book.specs.declared.fault.PurgeFault.{PurgeFault}
-use Rattle.buffer_book.specs.declared.fault.PurgeFault.TheVariants as purge
-use Rattle.buffer_book.specs.declared.takes.Takes.{Takes}
-use Rattle.buffer_book.specs.Claims as claims
-use Rattle.buffer_book.specs.Evidences.{Shows, Expired, named, IsOfKind}
+use Rattle.ack_receipt.specs.declared.book_fault.PurgeFault.{PurgeFault}
+use Rattle.ack_receipt.specs.declared.book_fault.PurgeFault.TheVariants as purge
+use Rattle.ack_receipt.specs.declared.takes.Takes.{Takes}
+use Rattle.ack_receipt.specs.Claims as claims
+use Rattle.ack_receipt.specs.Evidences.{Shows, Expired, named, IsOfKind}
 use Rattle.flush_pool.specs.declared.fault.CarryFault.{CarryFault}
 use Rattle.flush_pool.specs.declared.fault.CarryFault.TheVariants as carry
 use Rattle.flush_pool.specs.declared.verdict.Verdict.TheVariants.{Try, Wait, GiveUp}

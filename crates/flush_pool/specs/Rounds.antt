@@ -1,8 +1,8 @@
 -- How a worker ended, and how several did.
 use Rattle.std.specs.Prelude.{ℕ, ◌≡◌, ◌+◌, true, None, Some, List, Result, Ok, Err}
 use Rattle.buffer_store.specs.declared.fault.BufferFault.{BufferFault}
-use Rattle.buffer_book.specs.Claims.{Claimed}
-use Rattle.buffer_book.specs.Evidences.{Shows}
+use Rattle.ack_receipt.specs.Claims.{Claimed}
+use Rattle.ack_receipt.specs.Evidences.{Shows}
 use Rattle.flush_pool.specs.declared.acts.Outcome.{Outcome}
 use Rattle.flush_pool.specs.declared.worked.Worked.{Worked}
 use Rattle.flush_pool.specs.Acts.{Act, Place, Post, Looked, last, held}

@@ -4,7 +4,7 @@ ghost use Rattle.std.specs.Prelude.{◌≡◌, Ok};
 
 use crate::fault::CarryFault;
 use crate::view::ClaimView;
-use buffer_book::Evidence;
+use ack_receipt::Evidence;
 use disk_files::Dir;
 use std::alloc::Allocator;
 use std::sync::Wait;
@@ -14,8 +14,8 @@ use std::sync::Wait;
 ///
 /// Several workers call it at once. No lock of the buffer is held while it works.
 pub trait Courier<R: Wait, D: Dir, A: Allocator> {
-    ghost use Rattle.buffer_book.specs.Claims.{Claimed};
-    ghost use Rattle.buffer_book.specs.Evidences.{Shows};
+    ghost use Rattle.ack_receipt.specs.Claims.{Claimed};
+    ghost use Rattle.ack_receipt.specs.Evidences.{Shows};
 
     /// What is so where this courier gave this for the claimed chunk. Of one that says nothing of
     /// it, nothing is known; but nobody else says it in its place.

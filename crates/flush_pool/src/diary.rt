@@ -5,8 +5,7 @@ ghost use Rattle.flush_pool.specs.Diaries.{act_of};
 
 use crate::fault::CarryFault;
 use crate::retries::{Forgotten, Judgement, Noted};
-use ack_receipt::GivenBack;
-use buffer_book::{Claim, Evidence, PurgeFault};
+use ack_receipt::{Claim, Evidence, GivenBack, PurgeFault};
 use std::alloc::Allocator;
 use std::marker::Model;
 use std::snapshot::Snapshot;

@@ -1,7 +1,7 @@
 //! A worker's rounds: each claims a chunk and settles it.
 
 ghost use Rattle.std.specs.Prelude.{◌≡◌, ◌≢◌, ◌↔◌, [], Some, IsTrue};
-ghost use Rattle.buffer_book.specs.declared.fault.PurgeFault.{PurgeFault};
+ghost use Rattle.ack_receipt.specs.declared.book_fault.PurgeFault.{PurgeFault};
 ghost use Rattle.flush_pool.specs.declared.fault.CarryFault.{CarryFault};
 ghost use Rattle.flush_pool.specs.Acts.{Claimed, Judged, NotCarried, last};
 ghost use Rattle.flush_pool.specs.declared.verdict.Verdict.TheVariants.{Try};
@@ -16,7 +16,7 @@ use crate::pass::{Seen, Watch};
 use crate::verdict::Verdict;
 use crate::worked::Worked;
 use crate::worker::Worker;
-use buffer_book::{Claim, Evidence, PurgeFault};
+use ack_receipt::{Claim, Evidence, PurgeFault};
 use buffer_store::BufferFault;
 use disk_files::Dir;
 use std::alloc::Allocator;

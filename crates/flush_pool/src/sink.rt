@@ -8,12 +8,11 @@ use crate::courier::Courier;
 use crate::fault::CarryFault;
 use crate::retries::read_clock;
 use crate::view::ClaimView;
-use buffer_book::Evidence;
+use ack_receipt::Evidence;
 use disk_files::Dir;
 use event_modes::{Entries, LONGEST_TAG};
 use relay_notices::{Notice, Teller};
-use sink_rotation::Rotation;
-use sink_series::{SeriesFault, Stored};
+use sink_series::{Rotation, SeriesFault, Stored};
 use std::alloc::Allocator;
 use std::marker::Model;
 use std::snapshot::Snapshot;
@@ -151,7 +150,7 @@ impl<S: Dir + Drop, A: Allocator + Copy> SinkCourier<S, A> {
 
 impl<R: Wait + Clock, D: Dir, S: Dir + Drop, A: Allocator + Copy> Courier<R, D, A>
     for SinkCourier<S, A> {
-    ghost use Rattle.buffer_book.specs.Evidences.{Shows};
+    ghost use Rattle.ack_receipt.specs.Evidences.{Shows};
 
     ghost gives = { λ _ claim shown. IsStoredFor claim shown };
 

@@ -1,11 +1,10 @@
 //! What a courier is shown of a claimed chunk.
 
 ghost use Rattle.std.specs.Prelude.{◌≡◌, IfOk, length};
-ghost use Rattle.buffer_book.specs.Claims.{id_of};
+ghost use Rattle.ack_receipt.specs.Claims.{id_of};
 
 use crate::fault::CarryFault;
-use ack_receipt::SharedBuffer;
-use buffer_book::Claim;
+use ack_receipt::{Claim, SharedBuffer};
 use disk_files::Dir;
 use event_modes::{ChunkId, Entries};
 use std::alloc::Allocator;
@@ -23,7 +22,7 @@ pub struct ClaimView<'a, D: Dir, A: Allocator> {
 
 impl<'a, D: Dir, A: Allocator> Model for ClaimView<'a, D, A> {
     ghost use Rattle.std.specs.Prelude.{◌≡◌};
-    ghost use Rattle.buffer_book.specs.Claims.{Claimed};
+    ghost use Rattle.ack_receipt.specs.Claims.{Claimed};
 
     ghost Value = { Claimed };
 

@@ -17,7 +17,7 @@ use Rattle.event_modes.proofs.Stored.{concat-push}
 use Rattle.event_modes.proofs.Again.{some_byte}
 use Rattle.event_modes.proofs.Only.{no_begin}
 use Rattle.std.specs.Prelude.{slice_range}
-use Rattle.buffer_book.specs.Evidences.{Shows, Acknowledged}
+use Rattle.ack_receipt.specs.Evidences.{Shows, Acknowledged}
 use Rattle.forward_core.specs.declared.fault.SessionFault.TheVariants.{BadAck}
 use Rattle.forward_core.specs.Client.{Sees, Waits, Fails, IsPassed, IsOther, IsNoReply, IsHeard}
 

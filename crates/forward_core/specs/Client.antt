@@ -14,7 +14,7 @@ use Rattle.auth_handshake.specs.Ends.{ClientEnd, client_digest, IsUnderName, IsV
 use Rattle.event_modes.specs.declared.chunk_id.ChunkId.{ChunkId}
 use Rattle.event_modes.specs.ChunkIds.{chunk_text}
 use Rattle.event_modes.specs.Acknowledgement.{IsAcknowledgement}
-use Rattle.buffer_book.specs.Evidences.{Shows, Acknowledged}
+use Rattle.ack_receipt.specs.Evidences.{Shows, Acknowledged}
 use Rattle.forward_core.specs.declared.fault.SessionFault.{SessionFault}
 use Rattle.forward_core.specs.declared.fault.SessionFault.TheVariants.{Handshake, BadAck, Closed}
 use Rattle.forward_core.specs.declared.security.Security.{Security}

@@ -6,3 +6,4 @@ pub mod Streams
 pub mod Handshakes
 pub mod Server
 pub mod Client
+pub mod Credentials

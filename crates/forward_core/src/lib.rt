@@ -1,5 +1,5 @@
 //! Both ends of a connection of the Forward Protocol (v1) as values: bytes go in, and bytes and
-//! demands come out.
+//! demands come out; with the host name and key of a configuration, as handshakes show them.
 #![tactic(auto)]
 
 mod client;
@@ -11,6 +11,7 @@ mod messages;
 mod outbox;
 mod past;
 mod replies;
+mod secret;
 mod security;
 mod server;
 mod server_handshake;
@@ -22,5 +23,6 @@ pub use demand::Demand;
 pub use fault::{SessionError, SessionFault};
 pub use past::{AskedSoFar, TakenSoFar};
 pub use replies::Heard;
+pub use secret::{secret_copy, security_of};
 pub use security::Security;
 pub use server::{ServerSession, Unanswered};

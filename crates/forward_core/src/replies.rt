@@ -6,7 +6,7 @@ ghost use Rattle.msgpack_bytes.specs.Kinds.{IsNil};
 ghost use Rattle.event_modes.specs.declared.chunk_id.ChunkId.{ChunkId};
 ghost use Rattle.event_modes.specs.ChunkIds.{chunk_text};
 ghost use Rattle.event_modes.specs.Acknowledgement.{IsAcknowledgement};
-ghost use Rattle.buffer_book.specs.Evidences.{Acknowledged};
+ghost use Rattle.ack_receipt.specs.Evidences.{Acknowledged};
 ghost use Rattle.forward_core.specs.Client.{IsAwaited, IsHeard, IsReply, said};
 
 use crate::fault::SessionFault;

@@ -4,7 +4,7 @@ use Rattle.std.specs.Prelude.{IsSomeAnd, OnOk, OnErr, Contains, ◌≢◌, slice
 use Rattle.std.proofs.lemmas.List.{get_or-map, length-map}
 use Rattle.std.specs.List.{All, filter}
 use Rattle.relay_conf.specs.declared.output.BufferNo.{BufferNo}
-use Rattle.buffer_lanes.specs.Lanes.{KeepsLanes, LanesState, NoneLater, later_at}
+use Rattle.loop_core.specs.Lanes.{KeepsLanes, LanesState, NoneLater, later_at}
 use Rattle.book_audit.specs.declared.line.Leaf.{Leaf}
 use Rattle.std.proofs.lemmas.List.Elements.{All-nil, All-push, All-head, All-rest, All-same, All-weaker, Contains-append_left}
 use Rattle.ack_receipt.specs.Deliveries.{OpenDelivery}
@@ -22,9 +22,9 @@ use Rattle.forward_core.specs.declared.fault.SessionFault.TheVariants.{Closed}
 use Rattle.forward_core.specs.Demands.{Wanted, Delivers, asked_in, wanted}
 use Rattle.forward_core.specs.Server.{ServerPhase, Awaiting, Opened, Over, ServerReads, ReadsOn, ServerState, Outcome, after, close_by, phase_by, initial_server}
 use Rattle.relay_ports.specs.Leaves.{Entry, IsRoutedTo, leaf_of}
-use Rattle.buffer_lanes.specs.Waits.{Awaited, HasEntries, Waits, awaited_by}
+use Rattle.loop_core.specs.Waits.{Awaited, HasEntries, Waits, awaited_by}
 use Rattle.book_audit.specs.Stubs.{Left}
-use Rattle.buffer_lanes.specs.Collecting.{IsAbandoned, IsAnswerTo, those_later}
+use Rattle.loop_core.specs.Collecting.{IsAbandoned, IsAnswerTo, those_later}
 use Rattle.loop_core.specs.Peers.{AreAmong, BecomeInOrder, Becomes, GoOnWaiting, IsOwed, IsEarned, IsFaithful, IsRead, IsTaken, OneMoreWaits, Standing, awaited_in, wants_close}
 
 -- a connection that was opened

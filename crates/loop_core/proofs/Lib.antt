@@ -1,1 +1,9 @@
 pub mod Keeping
+pub mod Adding
+pub mod KeepingLanes
+pub mod Appending
+pub mod Redeeming
+pub mod Leaving
+pub mod Pendings
+pub mod Noting
+pub mod Moving

@@ -1,2 +1,9 @@
 pub mod Peers
 pub mod Faults
+pub mod Waits
+pub mod Collecting
+pub mod Lanes
+pub mod Schedules
+pub mod Owners
+pub mod Buffers
+pub mod Folders

@@ -4,9 +4,9 @@ use Rattle.ack_receipt.specs.Reservations.{Answer, Asked, Reservation}
 use Rattle.forward_core.specs.Demands.{Wanted, Delivers, Closes}
 use Rattle.forward_core.specs.Server.{Outcome, ServerReads, ServerState, after}
 use Rattle.relay_ports.specs.Leaves.{Entry, IsRoutedTo}
-use Rattle.buffer_lanes.specs.Waits.{Awaited, Waits}
+use Rattle.loop_core.specs.Waits.{Awaited, Waits}
 use Rattle.book_audit.specs.Stubs.{Left}
-use Rattle.buffer_lanes.specs.Collecting.{IsAbandoned, IsAnswerTo}
+use Rattle.loop_core.specs.Collecting.{IsAbandoned, IsAnswerTo}
 
 -- the connection's source, its session, the deliveries that wait, and whether nothing more is read
 pub record PeerState : Type 0 where

@@ -3,8 +3,8 @@
 ghost use Rattle.std.specs.Prelude.{◌≡◌, ◌≤◌, ◌<◌, ◌+◌, ◌⊎◌, ◌↔◌, ◌||◌, [], Bool, List, true, false, not, drop, length, map, vec_len, vec_capacity, All, Contains, None, IfOk, IfSome, OnOk, OnErr, IsTrue};
 ghost use Rattle.ack_receipt.specs.Reservations.{Asked, asked_of};
 ghost use Rattle.event_modes.specs.Reading.{meaning};
-ghost use Rattle.buffer_lanes.specs.Lanes.{KeepsLanes, NoneLater};
-ghost use Rattle.buffer_lanes.specs.Waits.{Awaited, HasEntries, awaited_by};
+ghost use Rattle.loop_core.specs.Lanes.{KeepsLanes, NoneLater};
+ghost use Rattle.loop_core.specs.Waits.{Awaited, HasEntries, awaited_by};
 ghost use Rattle.loop_core.specs.Peers.{AreAmong, BecomeInOrder, Becomes, GoOnWaiting, IsEarned, IsFaithful, IsOwed, IsRead, IsTaken, OneMoreWaits, awaited_in, wants_close};
 ghost use Rattle.std.specs.Arc.{arc_value};
 ghost use Rattle.forward_core.specs.Handshakes.{IsHosted};
@@ -12,8 +12,8 @@ ghost use Rattle.forward_core.specs.Demands.{asked_in, wanted};
 ghost use Rattle.forward_core.specs.Server.{IsAskedIn, Over, awaits_ping, initial_server};
 
 use crate::fault::LoopFault;
+use crate::{Collected, Lanes, Waiting};
 use ack_receipt::{Delivery, DeliveryNo, Numbers, Reserved};
-use buffer_lanes::{Collected, Lanes, Waiting};
 use disk_files::Dir;
 use event_modes::{Message, ModeFault};
 use forward_core::{Demand, Security, ServerSession, SessionError, SessionFault};

@@ -11,8 +11,8 @@ use Rattle.custody_steps.specs.World.{World, initial_world}
 use Rattle.custody_steps.specs.declared.fault.StepFault.{StepFault}
 use Rattle.custody_steps.specs.declared.fault.StepFault.TheVariants as fault
 use Rattle.loss_rules.specs.declared.label.Duty.{Duty}
-use Rattle.message_book.specs.Book.{Told, told_events, told_of}
-use Rattle.message_book.specs.declared.message.Acknowledged.{Acknowledged}
+use Rattle.custody_store.specs.Book.{Told, told_events, told_of}
+use Rattle.custody_store.specs.declared.message.Acknowledged.{Acknowledged}
 use Rattle.relay_net.specs.Network.{Network}
 use Rattle.step_lines.specs.declared.step.Step.{Step}
 use Rattle.loss_search.specs.Losses.{HasLost, Loses}

@@ -4,7 +4,7 @@ use Rattle.custody_core.specs.Custody.{IsKeptAs}
 use Rattle.custody_steps.specs.Steps.{Steps}
 use Rattle.custody_steps.specs.World.{World, initial_world}
 use Rattle.loss_rules.specs.declared.label.Duty.{Duty}
-use Rattle.message_book.specs.Book.{Told}
+use Rattle.custody_store.specs.Book.{Told}
 use Rattle.relay_net.specs.Network.{Network}
 use Rattle.step_lines.specs.StepLines.{SayAll}
 use Rattle.step_lines.specs.declared.step.Step.{Step}

@@ -2,7 +2,7 @@
 use Rattle.std.proofs.Common.{ℕ, ◌≡◌, ◌∙◌, ◌+◌, ◌⊎◌, inl, inr, add-one, arith, true, List, [], length, subst, sym, Result, Ok, Err}
 use Rattle.std.specs.Prelude.{OnErr, OnOk}
 use Rattle.relay_sockets.specs.Traffics.{Conveys, Traffic}
-use Rattle.buffer_lanes.specs.Lanes.{KeepsLanes, LanesState}
+use Rattle.loop_core.specs.Lanes.{KeepsLanes, LanesState}
 use Rattle.loop_core.specs.Peers.{PeerState}
 use Rattle.mio_relay.specs.Connections.{AreReceived, Brings, ConnectionState, Hears, IsReceived, IsSameConnection, MayRead}
 use Rattle.mio_relay.proofs.Slots.{no_not_yes}

@@ -5,7 +5,7 @@ use Rattle.std.proofs.Math.Nat.{eq-or-lt_of_le}
 use Rattle.std.proofs.lemmas.List.{get_or-set_same, get_or-set_other, length-set}
 use Rattle.std.proofs.lemmas.List.Elements.{All-nil, All-set}
 use Rattle.std.proofs.lemmas.Option.{slice_get-map}
-use Rattle.buffer_lanes.specs.Waits.{Waits}
+use Rattle.loop_core.specs.Waits.{Waits}
 use Rattle.relay_sockets.specs.Endpoints.{CameAt, Origin}
 use Rattle.mio_relay.specs.Connections.{AllBelow, AreFlushed, AreFlushedBelow, AreInTime, AreInTimeBelow, AreListening, AreServed, AreSettled, AreSettledBelow, BeginsAt, ConnectionState, HoldsFlushed, HoldsNone, GoesOn, GoOn, Hosted, IsSameConnection, IsServed, Served, sources_in}
 use Rattle.mio_relay.specs.Turning.{MayGet}

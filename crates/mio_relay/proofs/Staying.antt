@@ -3,8 +3,8 @@ use Rattle.std.proofs.Common.{ℕ, ◌≡◌, ◌∙◌, arith, Bool, List, [], 
 use Rattle.std.specs.List.{All}
 use Rattle.ack_receipt.specs.Deliveries.{Pended}
 use Rattle.relay_conf.specs.declared.output.BufferNo.{BufferNo}
-use Rattle.buffer_lanes.specs.Lanes.{AreQueued, AreRedeemed, AreRedeemedAt, LanesState, later_at, listed_at}
-use Rattle.buffer_lanes.specs.Schedules.{IsNoneDue, Plan, timing_of}
+use Rattle.loop_core.specs.Lanes.{AreQueued, AreRedeemed, AreRedeemedAt, LanesState, later_at, listed_at}
+use Rattle.loop_core.specs.Schedules.{IsNoneDue, Plan, timing_of}
 use Rattle.mio_relay.specs.Connections.{AreFlushed, AreSettled}
 use Rattle.mio_relay.specs.Loops.{LoopState, OnlyLaterWait, Rests, Stays}
 

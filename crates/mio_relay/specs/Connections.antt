@@ -6,7 +6,7 @@ use Rattle.relay_conf.specs.declared.relay.Source.{Source}
 use Rattle.route_graph.specs.Table.{Table, table_of}
 use Rattle.forward_core.specs.declared.security.Security.{Security}
 use Rattle.forward_core.specs.Server.{Over, ServerState, awaits_ping, initial_server}
-use Rattle.handshake_keys.specs.Credentials.{Credentials, credentials_in, credentials_of}
+use Rattle.forward_core.specs.Credentials.{Credentials, credentials_in, credentials_of}
 use Rattle.relay_ports.specs.Leaves.{Entry}
 use Rattle.relay_sockets.specs.Endpoints.{Endpoint, Origin, CameAt, IsPortOf}
 use Rattle.relay_sockets.specs.Traffics.{Traffic, Conveys}

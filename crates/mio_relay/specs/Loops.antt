@@ -1,7 +1,7 @@
 -- What a relay's loop keeps.
 use Rattle.std.specs.Prelude.{ℕ, ◌≡◌, ◌≤◌, [], false, max, List, Option, IfSome}
 use Rattle.ack_receipt.specs.Terms.{Terms}
-use Rattle.buffer_lanes.specs.Lanes.{KeepsLanes, LanesState, later_at, listed_at}
+use Rattle.loop_core.specs.Lanes.{KeepsLanes, LanesState, later_at, listed_at}
 use Rattle.loop_core.specs.declared.fault.LoopFault.{LoopFault}
 use Rattle.relay_conf.specs.declared.output.BufferNo.{BufferNo}
 use Rattle.relay_ports.specs.declared.buffered.BufferedOutput.{BufferedOutput}

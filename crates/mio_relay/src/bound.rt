@@ -1,7 +1,7 @@
 //! A relay whose sources are bound: no file of it was touched yet.
 
 ghost use Rattle.std.specs.Prelude.{◌≡◌, [], None, map, IfOk};
-ghost use Rattle.relay_buffers.specs.Buffers.{AreBuffersOf, ArePlaced, ArePlanned};
+ghost use Rattle.loop_core.specs.Buffers.{AreBuffersOf, ArePlaced, ArePlanned};
 ghost use Rattle.mio_relay.specs.Connections.{ArePortsOf, served_as};
 
 use crate::connections::Connections;
@@ -11,8 +11,7 @@ use crate::listener::{Listener, listen};
 use crate::ready::ReadyPorts;
 use ack_receipt::Numbers;
 use disk_files::Dir;
-use loop_core::LoopFault;
-use relay_buffers::{DeliveryJob, Folders, RelayParts, open_all, parts_of};
+use loop_core::{DeliveryJob, Folders, LoopFault, RelayParts, open_all, parts_of};
 use relay_notices::Teller;
 use relay_ports::{BufferedOutput, RelaySetup, SetupParts};
 use relay_sockets::{Network, Nonces};

@@ -1,15 +1,14 @@
 //! A client's connection: its stream, its session, and what is known of the stream.
 
 ghost use Rattle.std.specs.Prelude.{ℕ, ◌≡◌, ◌≤◌, ◌+◌, ◌⊎◌, ◌↔◌, Err, IsErr, IsTrue, Ok, OnErr, OnOk, false, true, length, take};
-ghost use Rattle.buffer_lanes.specs.Lanes.{KeepsLanes, NoneLater};
+ghost use Rattle.loop_core.specs.Lanes.{KeepsLanes, NoneLater};
 ghost use Rattle.loop_core.specs.declared.fault.LoopFault.TheVariants as ends;
 ghost use Rattle.mio_relay.specs.Holding.{held_by};
 ghost use Rattle.mio_relay.specs.Connections.{AreReceived, Brings, ConnectionState, IsDone, IsFlushed, IsLate, IsReceived, IsSameConnection, IsSettled, IsWrittenOn, MayClose, MayRead, most_pieces};
 
 use ack_receipt::Numbers;
-use buffer_lanes::Lanes;
 use disk_files::Dir;
-use loop_core::{LoopFault, Peer};
+use loop_core::{Lanes, LoopFault, Peer};
 use relay_notices::Closing;
 use relay_sockets::{Moved, Wire};
 use std::alloc::Allocator;

@@ -1,7 +1,7 @@
 //! The connections of a loop, by their keys.
 
 ghost use Rattle.std.specs.Prelude.{ℕ, ◌≡◌, ◌≤◌, ◌+◌, [], List, Option, None, Some, false, true, length, slice_get, slice_index_or, IfOk, IfSome, IsSomeAnd, OnOk};
-ghost use Rattle.buffer_lanes.specs.Lanes.{KeepsLanes, NoneLater};
+ghost use Rattle.loop_core.specs.Lanes.{KeepsLanes, NoneLater};
 ghost use Rattle.mio_relay.specs.Holding.{HoldsMost, held_in, most_held};
 ghost use Rattle.mio_relay.specs.Connections.{AreFlushed, AreFlushedBelow, AreInTime, AreInTimeBelow, AreServed, AreSettled, AreSettledBelow, GoOn, GoesOn, ConnectionState, HoldsFlushed, HoldsInTime, HoldsNone, IsServed, MayClose, Served};
 ghost use Rattle.mio_relay.specs.Turning.{AreNumbered, EachKey, at_key, MayGet, MayLose, StandOn, StandsOn};
@@ -9,8 +9,8 @@ ghost use Rattle.mio_relay.specs.Turning.{AreNumbered, EachKey, at_key, MayGet, 
 use crate::connection::{Connection, ConnectionParts, NoNumber};
 use crate::holding::{heaviest_of, held_in};
 use ack_receipt::Numbers;
-use buffer_lanes::Lanes;
 use disk_files::Dir;
+use loop_core::Lanes;
 use relay_sockets::{NetFault, Network, Wire};
 use slab::Slab;
 use std::alloc::{AllocError, Allocator};

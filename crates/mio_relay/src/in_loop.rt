@@ -2,10 +2,10 @@
 
 ghost use Rattle.std.specs.Prelude.{◌≡◌, ◌≤◌, [], Err, None, Ok, map, IfErr, IfOk, IfSome, OnOk};
 ghost use Rattle.std.specs.Arc.{arc_value};
-ghost use Rattle.relay_buffers.specs.Buffers.{AreBuffersOf};
+ghost use Rattle.loop_core.specs.Buffers.{AreBuffersOf};
 ghost use Rattle.relay_ports.specs.Outputs.{outputs_in};
 ghost use Rattle.relay_ports.specs.Setups.{CanRun};
-ghost use Rattle.buffer_lanes.specs.Lanes.{AppendsWait, AreQueued, NoneLater};
+ghost use Rattle.loop_core.specs.Lanes.{AppendsWait, AreQueued, NoneLater};
 ghost use Rattle.mio_relay.specs.Connections.{AreFlushed, AreInTime, AreServed, AreSettled, sources_of};
 ghost use Rattle.mio_relay.specs.Holding.{held_in, most_held};
 ghost use Rattle.mio_relay.specs.Loops.{IsTimeAfter, OnlyLaterWait, Rests, Stays, TakesIn};
@@ -18,11 +18,9 @@ use crate::connections::Connections;
 use crate::listener::{Listener, loop_fault};
 use crate::stopping::Told;
 use ack_receipt::{Numbers, SharedBuffer, Stub};
-use buffer_lanes::Lanes;
 use buffer_store::BufferFault;
 use disk_files::Dir;
-use loop_core::LoopFault;
-use relay_buffers::{Folders, SystemDir, SystemFolders};
+use loop_core::{Folders, Lanes, LoopFault, SystemDir, SystemFolders};
 use relay_conf::Relay;
 use relay_notices::Teller;
 use relay_ports::RelaySetup;

@@ -3,12 +3,11 @@
 ghost use Rattle.std.specs.Prelude.{◌≡◌, ◌++◌, [], ◌∷◌, map, length, slice_get, IfOk, OnOk, IfSome, IsSomeAnd};
 ghost use Rattle.std.specs.Arc.{arc_value};
 ghost use Rattle.forward_core.specs.Handshakes.{IsHosted};
-ghost use Rattle.handshake_keys.specs.Credentials.{credentials_in};
+ghost use Rattle.forward_core.specs.Credentials.{credentials_in};
 ghost use Rattle.mio_relay.specs.Faults.{of_network};
 ghost use Rattle.mio_relay.specs.Connections.{AreListening, BeginsAt, endpoint_of, served_as, sources_in};
 
-use forward_core::Security;
-use handshake_keys::shown;
+use forward_core::{Security, security_of};
 use loop_core::{LoopFault, Peer};
 use relay_conf::{Security as Secret, Source};
 use relay_ports::Inlet;
@@ -32,7 +31,7 @@ pub struct Listener<N: Network, A: Allocator> {
 impl<N: Network, A: Allocator> Model for Listener<N, A> {
     ghost use Rattle.std.specs.Prelude.{string_bytes};
     ghost use Rattle.std.specs.Arc.{arc_value};
-    ghost use Rattle.handshake_keys.specs.Credentials.{credentials_of};
+    ghost use Rattle.forward_core.specs.Credentials.{credentials_of};
     ghost use Rattle.mio_relay.specs.Connections.{Hosted};
 
     ghost Value = { Hosted };
@@ -61,7 +60,7 @@ impl<N: Network, A: Allocator> Listener<N, A> {
         ensures hosted { IfOk result IsHosted }
         ensures asks { IfOk result (λ security. credentials_in security ≡ self.now.source.asks) }
     {
-        shown(&self.secret)
+        security_of(&self.secret)
     }
 }
 

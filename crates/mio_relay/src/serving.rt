@@ -1,7 +1,7 @@
 //! The connections of a loop: what is ready, read, answered, written and closed.
 
 ghost use Rattle.std.specs.Prelude.{◌≡◌, ◌≤◌, ◌+◌, Err, length, IfErr, IfSome, OnOk};
-ghost use Rattle.buffer_lanes.specs.Lanes.{NoneLater};
+ghost use Rattle.loop_core.specs.Lanes.{NoneLater};
 ghost use Rattle.mio_relay.specs.Faults.{IsReason, of_network};
 ghost use Rattle.mio_relay.specs.Holding.{ShedsMost, held_in, most_held};
 ghost use Rattle.mio_relay.specs.Loops.{Rests, Stays, TakesIn};

@@ -7,8 +7,8 @@ use Rattle.std.proofs.lemmas.List.Elements.{All-append, All-cons, All-nil}
 use Rattle.std.proofs.lemmas.List.Sums.{sum_by-append}
 use Rattle.std.proofs.Math.Seq.{take-suc, take-length}
 use Rattle.std.proofs.lemmas.Option.{slice_get-map, slice_get_read}
-use Rattle.message_book.specs.Book.{told_of, told_events}
-use Rattle.message_book.specs.declared.message.Acknowledged.{Acknowledged}
+use Rattle.custody_store.specs.Book.{told_of, told_events}
+use Rattle.custody_store.specs.declared.message.Acknowledged.{Acknowledged}
 use Rattle.relay_net.specs.Network.{Network}
 use Rattle.custody_steps.specs.World.{World}
 use Rattle.custody_core.specs.Custody.{IsKeptAs}

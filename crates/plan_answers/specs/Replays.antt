@@ -13,7 +13,7 @@ use Rattle.loss_rules.specs.declared.answer.Answer.{Answer}
 use Rattle.loss_rules.specs.declared.answer.Answer.TheVariants as answer
 use Rattle.loss_rules.specs.declared.label.Duty.{Duty}
 use Rattle.loss_rules.specs.declared.label.Duty.TheVariants as duty
-use Rattle.message_book.specs.Book.{Told}
+use Rattle.custody_store.specs.Book.{Told}
 use Rattle.relay_net.specs.Network.{Network}
 use Rattle.step_lines.specs.StepLines.{SayAll, IsRefusedLine}
 use Rattle.step_lines.specs.declared.step.Step.{Step}

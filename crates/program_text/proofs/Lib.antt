@@ -1,2 +1,3 @@
 pub mod ListingSteps
 pub mod OutputSteps
+pub mod ReadingSteps

@@ -3,3 +3,4 @@ pub mod Listings
 pub mod Output
 pub mod Texts
 pub mod Version
+pub mod Stops

@@ -1,5 +1,6 @@
 //! What the words of a program share: the status that the process ends with, texts that are read
-//! whole or opened by their names, output that is written whole, and the version.
+//! whole or opened by their names, a relay's configuration that is read whole, output that is
+//! written whole, and the version.
 #![tactic(auto)]
 
 mod counted;
@@ -8,7 +9,9 @@ mod folder;
 mod opening;
 mod output;
 mod reading;
+mod relay_text;
 mod status;
+mod stop;
 mod version;
 
 pub use counted::CountedRead;
@@ -17,5 +20,7 @@ pub use folder::{FileText, Folder, NamedFile};
 pub use opening::Open;
 pub use output::{OutputFault, put_all, put_last};
 pub use reading::{MOST_READS, PIECE, ReadFault, read_named, read_whole};
+pub use relay_text::{ConfStop, read_relay};
 pub use status::Status;
+pub use stop::{print_conf_stop, stop_line};
 pub use version::{VERSION, print_version};

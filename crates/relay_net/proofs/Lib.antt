@@ -6,3 +6,7 @@ pub mod Hosts
 pub mod Nowhere
 pub mod Pairing
 pub mod Passing
+pub mod Fronts
+pub mod Growing
+pub mod Reaching
+pub mod Sending

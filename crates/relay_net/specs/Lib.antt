@@ -5,3 +5,5 @@ pub mod Network
 pub mod Outputs
 pub mod Sources
 pub mod Ways
+pub mod Arrivals
+pub mod Routed

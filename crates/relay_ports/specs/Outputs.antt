@@ -1,9 +1,9 @@
 -- The outputs that have buffers, and what lets the chunks of these go.
 use Rattle.std.specs.Prelude.{ℕ, ◌≡◌, ◌↔◌, List, Option, Some, None, IfSome, AllPairs, true, false, not, slice_get, string_bytes, option_to_list}
 use Rattle.std.specs.List.{flat_map}
-use Rattle.buffer_book.specs.declared.takes.Basis.{Basis}
-use Rattle.buffer_book.specs.declared.takes.Basis.TheVariants.{Acknowledged, Stored, Written}
-use Rattle.buffer_book.specs.declared.takes.Takes.{Takes}
+use Rattle.ack_receipt.specs.declared.takes.Basis.{Basis}
+use Rattle.ack_receipt.specs.declared.takes.Basis.TheVariants.{Acknowledged, Stored, Written}
+use Rattle.ack_receipt.specs.declared.takes.Takes.{Takes}
 use Rattle.relay_conf.specs.BufferSection.{kind_view}
 use Rattle.relay_conf.specs.declared.buffer.BufferSettings.{BufferSettings}
 use Rattle.relay_conf.specs.declared.buffer.OverflowAction.TheVariants.{DropOldestChunk}

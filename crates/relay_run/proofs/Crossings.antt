@@ -16,10 +16,10 @@ use Rattle.disk_files.proofs.real.RealDir.TheSendSync as real
 use Rattle.disk_files.proofs.past.Past.TheLaws.TheKnot as past
 use Rattle.sink_series.proofs.answers.Answers.TheLaws.TheKnot as answers
 use Rattle.sink_series.proofs.begun.Begun.TheLaws.TheKnot as begun
-use Rattle.sink_rotation.proofs.closed.Closed.TheLaws.TheKnot as closed
+use Rattle.sink_series.proofs.closed.Closed.TheLaws.TheKnot as closed
 use Rattle.ack_receipt.specs.contracts.shared.SharedBuffer as Shared
 use Rattle.flush_pool.proofs.Sharing as pool
-use Rattle.sink_rotation.specs.contracts.rotation.Rotation as Rotation
+use Rattle.sink_series.specs.contracts.rotation.Rotation as Rotation
 use Rattle.relay_notices.proofs.Sharing as told
 use Rattle.relay_notices.specs.contracts.notices.Notices as Notices
 use Rattle.relay_notices.specs.contracts.notices.Teller as Teller

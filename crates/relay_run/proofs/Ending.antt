@@ -1,8 +1,8 @@
 -- How the workers of a pool ended.
 use Rattle.std.proofs.Common.{ℕ, ◌≡◌, Result, subst}
 use Rattle.ack_receipt.specs.Terms.{Terms}
-use Rattle.buffer_book.specs.Claims.{Claimed}
-use Rattle.buffer_book.specs.Evidences.{Shows}
+use Rattle.ack_receipt.specs.Claims.{Claimed}
+use Rattle.ack_receipt.specs.Evidences.{Shows}
 use Rattle.buffer_store.specs.declared.fault.BufferFault.{BufferFault}
 use Rattle.flush_pool.specs.Acts.{at}
 use Rattle.flush_pool.specs.Rounds.{HaveWorked}

@@ -9,9 +9,9 @@ use Rattle.std.specs.contracts.alloc.Global as heap
 use Rattle.loop_core.specs.declared.fault.LoopFault.{LoopFault}
 use Rattle.mio_relay.specs.Connections.{ArePortsOf}
 use Rattle.mio_relay.specs.Loops.{BoundState}
-use Rattle.relay_buffers.specs.Buffers.{AreBuffersOf, ArePlaced}
-use Rattle.relay_buffers.specs.Folders.{path_for}
-use Rattle.relay_buffers.specs.Owners.{Owned}
+use Rattle.loop_core.specs.Buffers.{AreBuffersOf, ArePlaced}
+use Rattle.loop_core.specs.Folders.{path_for}
+use Rattle.loop_core.specs.Owners.{Owned}
 use Rattle.relay_run.specs.Running.{Continues, IsPoolOf, PoolEnded, PoolState, RelayState, fault_of, first_fault}
 
 map_map : {X Y Z : Type 0} (f : X → Y) (g : Y → Z) (xs : List X) → map g (map f xs) ≡ map (λ (x : X). g (f x)) xs

@@ -3,8 +3,8 @@ use Rattle.std.specs.Prelude.{ℕ, ◌≡◌, All, List, [], ◌∷◌, map, Opt
 use Rattle.std.specs.contracts.alloc.Global as heap
 use Rattle.buffer_store.specs.declared.fault.BufferFault.{BufferFault}
 use Rattle.buffer_store.specs.declared.fault.BufferFault.TheVariants as store
-use Rattle.buffer_book.specs.Claims.{Claimed}
-use Rattle.buffer_book.specs.Evidences.{Shows}
+use Rattle.ack_receipt.specs.Claims.{Claimed}
+use Rattle.ack_receipt.specs.Evidences.{Shows}
 use Rattle.flush_pool.specs.declared.gate.OpenGate.{OpenGate}
 use Rattle.flush_pool.specs.Acts.{at}
 use Rattle.flush_pool.specs.Carriages.{IsStoredFor}
@@ -16,9 +16,9 @@ use Rattle.relay_ports.specs.declared.buffered.BufferedOutput.{BufferedOutput}
 use Rattle.relay_ports.specs.declared.buffered.BufferedOutput.TheVariants.{Forward, File}
 use Rattle.relay_ports.specs.Outputs.{settings_of}
 use Rattle.relay_ports.specs.Setups.{Setup}
-use Rattle.relay_buffers.specs.Buffers.{AreBuffersOf, ArePlaced}
-use Rattle.relay_buffers.specs.Folders.{path_for}
-use Rattle.relay_buffers.specs.Owners.{Owned}
+use Rattle.loop_core.specs.Buffers.{AreBuffersOf, ArePlaced}
+use Rattle.loop_core.specs.Folders.{path_for}
+use Rattle.loop_core.specs.Owners.{Owned}
 use Rattle.relay_sockets.specs.Endpoints.{Origin}
 use Rattle.relay_sockets.specs.Traffics.{Traffic}
 use Rattle.tcp_courier.specs.Carrying.{IsSent, sender_of}

@@ -10,7 +10,7 @@ use Rattle.program_text.specs.Lines.{line, memory_line}
 use Rattle.program_text.specs.Output.{TakesPart, IsPrinted}
 use Rattle.relay_conf.specs.declared.relay.Relay.{Relay}
 use Rattle.relay_ports.specs.Setups.{Setup, setup_of}
-use Rattle.relay_reading.specs.Stops.{IsRelayRead, PrintsNoRelay}
+use Rattle.program_text.specs.Stops.{IsRelayRead, PrintsNoRelay}
 use Rattle.relay_run.specs.Running.{RelayEnded, RelayState, Runs, first_fault, relay_of}
 
 -- a source takes connections at this port

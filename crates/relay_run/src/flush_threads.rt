@@ -11,7 +11,7 @@ use ack_receipt::SharedBuffer;
 use buffer_store::BufferFault;
 use disk_files::Dir;
 use flush_pool::{Courier, OpenGate, Retries, Worked, run_pool};
-use relay_buffers::DeliveryJob;
+use loop_core::DeliveryJob;
 use relay_conf::RetrySettings;
 use relay_notices::Teller;
 use std::alloc::{AllocError, Allocator};
@@ -35,7 +35,7 @@ pub(crate) struct FlushThreads<D: Dir + Drop, A: Allocator> {
 impl<D: Dir + Drop, A: Allocator> Model for FlushThreads<D, A> {
     ghost use Rattle.std.specs.Prelude.{◌≡◌};
     ghost use Rattle.std.specs.Arc.{arc_value};
-    ghost use Rattle.relay_buffers.specs.Owners.{Owned};
+    ghost use Rattle.loop_core.specs.Owners.{Owned};
     ghost use Rattle.relay_ports.specs.Outputs.{settings_of};
 
     ghost Value = { Owned A };

@@ -5,8 +5,8 @@ use Rattle.std.proofs.Crossing.{crosses}
 use Rattle.std.proofs.CrossingOver as over
 use Rattle.sink_series.proofs.answers.Answers.TheLaws.TheKnot as answers
 use Rattle.sink_series.proofs.begun.Begun.TheLaws.TheKnot as begun
-use Rattle.sink_rotation.proofs.closed.Closed.TheLaws.TheKnot as closed
-use Rattle.sink_rotation.specs.contracts.rotation.Rotation as Rotation
+use Rattle.sink_series.proofs.closed.Closed.TheLaws.TheKnot as closed
+use Rattle.sink_series.specs.contracts.rotation.Rotation as Rotation
 use Rattle.relay_notices.specs.contracts.notices.Teller as Teller
 use Rattle.relay_notices.proofs.Sharing as told
 use Rattle.std_heap.specs.contracts.Global as Heap

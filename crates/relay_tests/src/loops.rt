@@ -3,8 +3,8 @@
 use crate::relays::{SINK, SMALL, relay_of};
 use crate::turned::{ended, goes_on};
 use disk_files::Dir;
+use loop_core::{Folders, MemoryFolders};
 use mio_relay::{Ended, InLoop};
-use relay_buffers::{Folders, MemoryFolders};
 use relay_sockets::{Network, SocketNetwork};
 use std::alloc::Global;
 use std::io::{ErrorKind, Read, Write};

@@ -6,8 +6,7 @@ use buffer_store::{Buffer, BufferFault, RENEWED_PAST_IN_MEMORY, Settings};
 use disk_files::Dir;
 use event_modes::Entries;
 use retry_waits::RetrySettings;
-use sink_rotation::{ONE_FILE, Rotation};
-use sink_series::SeriesFault;
+use sink_series::{ONE_FILE, Rotation, SeriesFault};
 use std::alloc::{AllocError, Global};
 
 // What is behind the lock in these tests, in a folder of any kind: over one in memory all that is

@@ -4,8 +4,8 @@ ghost use Rattle.std.specs.Prelude.{◌≡◌, [], IfOk};
 
 use ack_receipt::Stub;
 use disk_files::Dir;
+use loop_core::{DeliveryJob, Folders};
 use mio_relay::{BoundRelay, Ended, InLoop, OpenRelay};
-use relay_buffers::{DeliveryJob, Folders};
 use relay_conf::Relay;
 use relay_ports::RelaySetup;
 use relay_sockets::{Dialer, Moved, Network, SocketNetwork, Time, Unreached, Wire};

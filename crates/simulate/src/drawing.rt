@@ -1,6 +1,7 @@
 //! A network, drawn: a plan and the configuration of each of its relays, as texts.
 
-use relay_simulation::{Dice, FIRST_PORT};
+use crate::dice::Dice;
+use crate::playing::FIRST_PORT;
 use std::alloc::{AllocError, Global};
 
 /// A network's texts, the number of its first relay, behind which those of the others follow, and

@@ -6,11 +6,34 @@
 //! It prints how many runs there were, and status 0. At the first that is wrong it prints the seed,
 //! the plan, each configuration, and what is wrong with the steps so far, in the form that
 //! `relaynet replay` takes: status 1. Status 2: other words, or no memory.
+//!
+//! In a run each choice is drawn, and each action is told to the machine. A relay is the product's
+//! own parts over folders in memory, which outlive its stops, and a connection to it has no socket.
 #![tactic(auto)]
 
+mod arriving;
+mod chunks;
+mod closing;
+mod dice;
+mod disk;
 mod drawing;
+mod hearing;
+mod held;
+mod judge;
+mod lent;
+mod link;
+mod opening;
+mod playing;
+mod restarting;
+mod run;
 mod runs;
+mod sending;
+mod shelf;
 mod shorter;
+mod site;
+mod stock;
+mod storing;
+mod working;
 
 use runs::Drawn;
 use shorter::shorten;

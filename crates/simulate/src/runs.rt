@@ -1,10 +1,12 @@
 //! The runs of a network that was drawn.
 
+use crate::dice::Dice;
 use crate::drawing::{Drawing, draw};
+use crate::lent::Lent;
+use crate::playing::{Acts, Network, play};
 use disk_files::{Fuse, MemoryDir};
 use label_plan::labelled_text;
 use loss_checker::{Plan, check, conf_names};
-use relay_simulation::{Acts, Dice, Lent, Network, play};
 use std::alloc::{AllocError, Global};
 use std::sync::Wait;
 use std::time::Clock;

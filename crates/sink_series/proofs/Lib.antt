@@ -6,3 +6,4 @@ pub mod Made
 pub mod Onward
 pub mod Caused
 pub mod Kept
+mod Lasting

@@ -10,3 +10,8 @@ pub mod Begun
 pub mod Answers
 pub mod Laws
 pub mod Openings
+pub mod RotationViews
+pub mod Closed
+pub mod RotationKeeping
+pub mod Turning
+pub mod Steps

@@ -7,11 +7,11 @@ use Rattle.std.proofs.lemmas.List.Folds.{concat-append}
 use Rattle.event_modes.specs.declared.chunk_id.ChunkId.{ChunkId}
 use Rattle.event_modes.specs.ChunkIds.{chunk_text}
 use Rattle.event_modes.specs.Packed.{packed_message}
-use Rattle.buffer_book.specs.Claims.{Claimed, id_of}
-use Rattle.buffer_book.specs.Evidences.{Shows, Acknowledged}
+use Rattle.ack_receipt.specs.Claims.{Claimed, id_of}
+use Rattle.ack_receipt.specs.Evidences.{Shows, Acknowledged}
 use Rattle.forward_core.specs.Client.{ClientPhase, Ready, HasSent, ClientState, initial_client, named}
 use Rattle.forward_core.specs.declared.security.Security.{Security}
-use Rattle.handshake_keys.specs.Credentials.{Credentials, credentials_in}
+use Rattle.forward_core.specs.Credentials.{Credentials, credentials_in}
 use Rattle.relay_sockets.specs.Traffics.{Traffic, Conveys, IsFresh}
 use Rattle.relay_sockets.specs.Endpoints.{Endpoint, Origin, WentTo}
 use Rattle.relay_sockets.specs.Drawing.{IsDrawn}

@@ -7,7 +7,7 @@ use Rattle.auth_handshake.specs.Written.{ping_bytes}
 use Rattle.auth_handshake.specs.Ends.{ClientEnd, client_digest}
 use Rattle.event_modes.specs.declared.chunk_id.ChunkId.{ChunkId}
 use Rattle.event_modes.proofs.Parting.{nil_item}
-use Rattle.buffer_book.specs.Evidences.{Shows, Acknowledged}
+use Rattle.ack_receipt.specs.Evidences.{Shows, Acknowledged}
 use Rattle.forward_core.specs.Handshakes.{IsShown}
 use Rattle.forward_core.specs.Client.{ClientPhase, AwaitsHelo, AwaitsPong, Ready, HasSent, Ended, ClientState, Said, Sees, Waits, Fails, IsPassed, HearsNext, Listens, ReadsPong, ReadsAll, ClientReads, greeted}
 use Rattle.tcp_courier.specs.Talks.{AreItems, Hears, IsGreeting, Acknowledges}

@@ -1,10 +1,10 @@
 -- What a courier is, and what it did where a chunk was carried.
 use Rattle.std.specs.Prelude.{ℕ, ◌≡◌, ◌*◌, ◌-◌, ◌^◌, min, map, find, option_map, Contains, List, length, Bool, true, false, Option, Some, string_bytes}
-use Rattle.buffer_book.specs.Claims.{Claimed, id_of}
-use Rattle.buffer_book.specs.Evidences.{Shows, Acknowledged, Written}
+use Rattle.ack_receipt.specs.Claims.{Claimed, id_of}
+use Rattle.ack_receipt.specs.Evidences.{Shows, Acknowledged, Written}
 use Rattle.relay_conf.specs.declared.output.Server.{Server}
 use Rattle.relay_conf.specs.declared.output.ForwardSettings.{ForwardSettings}
-use Rattle.handshake_keys.specs.Credentials.{Credentials, credentials_of}
+use Rattle.forward_core.specs.Credentials.{Credentials, credentials_of}
 use Rattle.relay_sockets.specs.Drawing.{IsDrawn}
 use Rattle.relay_sockets.specs.Endpoints.{Endpoint, Origin, WentTo}
 use Rattle.relay_sockets.specs.Traffics.{Traffic, IsFresh}

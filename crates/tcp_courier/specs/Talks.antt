@@ -10,10 +10,10 @@ use Rattle.event_modes.specs.declared.chunk_id.ChunkId.{ChunkId}
 use Rattle.event_modes.specs.ChunkIds.{chunk_text}
 use Rattle.event_modes.specs.Acknowledgement.{IsAcknowledgement}
 use Rattle.event_modes.specs.Packed.{packed_message}
-use Rattle.buffer_book.specs.Claims.{Claimed, id_of}
-use Rattle.buffer_book.specs.Evidences.{Shows}
+use Rattle.ack_receipt.specs.Claims.{Claimed, id_of}
+use Rattle.ack_receipt.specs.Evidences.{Shows}
 use Rattle.forward_core.specs.Client.{ClientPhase, AwaitsHelo, AwaitsPong, Ready, ClientState, ClientReads, IsJudged, Sees, Waits, named}
-use Rattle.handshake_keys.specs.Credentials.{Credentials}
+use Rattle.forward_core.specs.Credentials.{Credentials}
 use Rattle.relay_sockets.specs.Traffics.{Traffic, Conveys}
 
 -- what came is what the session makes this of; where it made nothing of it, nothing came and the

@@ -17,8 +17,7 @@ use ack_receipt::Evidence;
 use disk_files::Dir;
 use event_modes::{Entries, LONGEST_TAG};
 use flush_pool::{CarryFault, ClaimView, Courier};
-use forward_core::ClientSession;
-use handshake_keys::{copied, shown};
+use forward_core::{ClientSession, secret_copy, security_of};
 use relay_conf::{ForwardSettings, Security as Secret, Server};
 use relay_notices::{Notice, Teller};
 use relay_sockets::{Dialer, Endpoint, Nonces, Wire};
@@ -59,7 +58,7 @@ pub struct TcpCourier<N, A: Allocator> {
 
 impl<N, A: Allocator> Model for TcpCourier<N, A> {
     ghost use Rattle.std.specs.Arc.{arc_value};
-    ghost use Rattle.handshake_keys.specs.Credentials.{credentials_of};
+    ghost use Rattle.forward_core.specs.Credentials.{credentials_of};
     ghost use Rattle.tcp_courier.specs.Carrying.{Sender};
 
     ghost Value = { Sender N };
@@ -98,7 +97,7 @@ impl<N: Dialer + Drop, A: Allocator + Copy> TcpCourier<N, A> {
         let Ok(servers) = endpoints_of(alloc, &settings.servers) else {
             return Err(refused(nonces, stop, dialer));
         };
-        let Ok(secret) = copied(alloc, &settings.security) else {
+        let Ok(secret) = secret_copy(alloc, &settings.security) else {
             return Err(refused(nonces, stop, dialer));
         };
         Ok(TcpCourier {
@@ -128,7 +127,7 @@ impl<N: Dialer + Drop, A: Allocator + Copy> TcpCourier<N, A> {
         ensures { IfOk result
             (λ session. (salt : List ℕ) × IsDrawn salt × (session ≡ begun self.now.shows salt)) }
     {
-        let Ok(security) = shown(&self.secret) else {
+        let Ok(security) = security_of(&self.secret) else {
             return Err(CarryFault::NoServer);
         };
         let salt = self.nonces.lock(rt).draw();

@@ -4,7 +4,7 @@ ghost use Rattle.std.specs.Prelude.{◌≡◌, ◌≤◌, ◌<◌, ◌^◌, [], 
 ghost use Rattle.std.specs.List.{concat};
 ghost use Rattle.event_modes.specs.declared.chunk_id.ChunkId.{ChunkId};
 ghost use Rattle.event_modes.specs.Message.{longest_tag};
-ghost use Rattle.buffer_book.specs.Evidences.{Acknowledged};
+ghost use Rattle.ack_receipt.specs.Evidences.{Acknowledged};
 ghost use Rattle.forward_core.specs.Client.{HasSent, Ready};
 ghost use Rattle.tcp_courier.specs.Carrying.{NamesChunk};
 ghost use Rattle.relay_sockets.specs.Traffics.{Conveys};

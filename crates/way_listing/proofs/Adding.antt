@@ -4,7 +4,7 @@ use Rattle.std.proofs.lemmas.List.{append-nil, get_or_default}
 use Rattle.std.proofs.lemmas.List.Elements.{Contains-append_cases, Contains-append_left, Contains-append_right}
 use Rattle.std.proofs.lemmas.List.Quantifiers.{all_pairs_push}
 use Rattle.route_graph.proofs.Members.{nil-none}
-use Rattle.routed_tags.proofs.Growing.{only_in, first_in}
+use Rattle.relay_net.proofs.Growing.{only_in, first_in}
 use Rattle.way_listing.specs.Sendings.{Adds, Through}
 
 -- what was there is there

@@ -4,7 +4,7 @@ use Rattle.std.proofs.lemmas.List.{take-append-le, take_all}
 use Rattle.std.proofs.lemmas.List.Elements.{Contains-append_cases}
 use Rattle.relay_net.proofs.Pairing.{taken_more}
 use Rattle.relay_net.specs.Network.{Network}
-use Rattle.routed_tags.proofs.Growing.{only_in}
+use Rattle.relay_net.proofs.Growing.{only_in}
 use Rattle.way_listing.specs.Sendings.{Adds, GoesOn, IsOnItsWay, begun, goes_on, Sending}
 use Rattle.way_listing.proofs.Adding.{still, either}
 

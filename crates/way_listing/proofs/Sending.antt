@@ -10,8 +10,8 @@ use Rattle.relay_net.specs.Ways.{table_at}
 use Rattle.relay_net.specs.declared.address.Entrance.{Entrance}
 use Rattle.route_graph.specs.Listing.{numbers_of}
 use Rattle.route_graph.specs.Ways.{IsLeaf, IsLoop}
-use Rattle.routed_tags.specs.Routed.{ComesTo, LeadsOn, SendsTo}
-use Rattle.routed_tags.proofs.Sending.{number_in, leaf_of}
+use Rattle.relay_net.specs.Routed.{ComesTo, LeadsOn, SendsTo}
+use Rattle.relay_net.proofs.Sending.{number_in, leaf_of}
 use Rattle.relay_net.specs.Addresses.{Address}
 use Rattle.tag_pattern.specs.Parts.{most_tag_bytes}
 use Rattle.tag_pattern.specs.Prefixes.{entered_tag}

@@ -4,7 +4,7 @@ use Rattle.relay_net.specs.Addresses.{Address}
 use Rattle.relay_net.specs.Network.{Network, address_of_client}
 use Rattle.relay_net.specs.declared.node.Client.{Client}
 use Rattle.route_graph.specs.Ways.{HaveTag}
-use Rattle.routed_tags.specs.Routed.{LeadsOn}
+use Rattle.relay_net.specs.Routed.{LeadsOn}
 use Rattle.tag_pattern.specs.Items.{Item}
 use Rattle.tag_pattern.specs.Parts.{most_tag_bytes}
 

@@ -8,7 +8,7 @@ use Rattle.program_text.specs.declared.status.Status.{Status}
 use Rattle.program_text.specs.declared.status.Status.TheVariants.{Done, Usage}
 use Rattle.relay_conf.specs.declared.relay.Relay.{Relay}
 use Rattle.relay_conf.specs.declared.relay.Source.{Source}
-use Rattle.relay_reading.specs.Stops.{IsRelayRead, PrintsNoRelay}
+use Rattle.program_text.specs.Stops.{IsRelayRead, PrintsNoRelay}
 use Rattle.route_graph.specs.Listing.{IsWay, numbers_of}
 use Rattle.route_graph.specs.Table.{table_of}
 use Rattle.route_graph.specs.declared.way.Way.{Way}

@@ -3,7 +3,7 @@
 ghost use Rattle.std.specs.Prelude.{◌≡◌, OnOk};
 ghost use Rattle.relay_net.specs.Network.{address_of_server};
 ghost use Rattle.relay_net.specs.Outputs.{servers_of};
-ghost use Rattle.routed_tags.specs.Routed.{SendsTo};
+ghost use Rattle.relay_net.specs.Routed.{SendsTo};
 ghost use Rattle.way_listing.specs.Sendings.{Adds, GoesOn, Through, sending};
 
 use crate::sent::{Sent, add};

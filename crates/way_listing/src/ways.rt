@@ -11,9 +11,8 @@ ghost use Rattle.tag_pattern.specs.Prefixes.{entered_tag};
 ghost use Rattle.tag_pattern.specs.Parts.{most_tag_bytes};
 
 use crate::outputs::put_buffer;
-use program_text::{CountedRead, Status, put_last};
+use program_text::{CountedRead, Status, print_conf_stop, put_last, read_relay};
 use relay_conf::{BufferNo, Relay, Source};
-use relay_reading::{print_conf_stop, read_relay};
 use route_graph::{Routes, Way};
 use std::alloc::{AllocError, Allocator};
 use std::io::Write;

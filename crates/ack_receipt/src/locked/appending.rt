@@ -2,7 +2,7 @@
 
 ghost use Rattle.std.specs.Prelude.{◌≡◌, ◌<◌, true, false, length, Ok, Err, IfOk, OnOk, OnErr};
 ghost use Rattle.book_audit.specs.Audits.{SameLines};
-ghost use Rattle.buffer_book.specs.Books.{Appends, IsWaiting, Steady, Unchanged, WritesLine};
+ghost use Rattle.ack_receipt.specs.Books.{Appends, IsWaiting, Steady, Unchanged, WritesLine};
 ghost use Rattle.buffer_store.specs.declared.fault.BufferFault.{BufferFault};
 ghost use Rattle.ack_receipt.specs.Redeeming.{line_of};
 ghost use Rattle.buffer_store.specs.Room.{FitsBesideUnqueued};
@@ -13,7 +13,7 @@ use super::pending::Pending;
 use super::receipt::Receipt;
 use super::terms::Terms;
 use crate::delivery::Delivery;
-use buffer_book::{Noted, Waits};
+use crate::{Noted, Waits};
 use buffer_store::BufferFault;
 use disk_files::Dir;
 use event_modes::Entries;

@@ -4,7 +4,7 @@ ghost use Rattle.std.specs.Prelude.{◌≡◌, ◌≢◌, ◌↔◌, ◌⊎◌, 
 ghost use Rattle.std.specs.Ordering.{nat_cmp};
 ghost use Rattle.std.specs.BTreeMap.{is_at};
 ghost use Rattle.buffer_store.specs.declared.fault.BufferFault.{BufferFault};
-ghost use Rattle.buffer_book.specs.Books.{IsWaiting, Syncs, WritesLine, waiting_at};
+ghost use Rattle.ack_receipt.specs.Books.{IsWaiting, Syncs, WritesLine, waiting_at};
 ghost use Rattle.ack_receipt.specs.declared.fault.RedeemFault.{RedeemFault};
 ghost use Rattle.ack_receipt.specs.Redeeming.{AreApart, AreBefore, AreReceiptsOf, AreWritten, CanRedeem, IsRedeemable, IsUnredeemed, line_of, origin_of, origin_of_pending};
 
@@ -12,9 +12,9 @@ use super::LockedBuffer;
 use super::pending::Pending;
 use super::receipt::Receipt;
 use super::terms::Terms;
+use crate::Booked;
 use crate::fault::RedeemFault;
 use book_audit::{Leaf, Line};
-use buffer_book::Booked;
 use buffer_store::BufferFault;
 use disk_files::Dir;
 use std::alloc::Allocator;

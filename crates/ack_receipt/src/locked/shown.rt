@@ -4,8 +4,8 @@
 ghost use Rattle.std.specs.Prelude.{◌≡◌};
 
 use super::pending::Pending;
+use crate::Claim;
 use book_audit::Leaf;
-use buffer_book::Claim;
 use std::alloc::Allocator;
 use std::marker::Model;
 use std::snapshot::Snapshot;
@@ -35,7 +35,7 @@ pub struct GivenBack<A: Allocator> {
 }
 
 impl<A: Allocator> Model for GivenBack<A> {
-    ghost use Rattle.buffer_book.specs.Claims.{Claimed};
+    ghost use Rattle.ack_receipt.specs.Claims.{Claimed};
 
     ghost Value = { Claimed };
 

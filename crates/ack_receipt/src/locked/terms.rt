@@ -2,8 +2,8 @@
 
 ghost use Rattle.std.specs.Prelude.{◌≡◌};
 
+use crate::Takes;
 use book_audit::Leaf;
-use buffer_book::Takes;
 use std::alloc::Allocator;
 use std::marker::Model;
 

@@ -3,8 +3,8 @@ use Rattle.std.specs.Prelude.{Contains}
 use Rattle.std.specs.Vec.Iter.{into_iter_items}
 use Rattle.std.proofs.lemmas.List.{nil_from_length}
 use Rattle.std.proofs.lemmas.List.Elements.{All-nil, All-rest, All-same}
-use Rattle.buffer_lanes.specs.Lanes.{LanesState, NoneLater}
-use Rattle.buffer_lanes.specs.Waits.{Waits}
+use Rattle.loop_core.specs.Lanes.{LanesState, NoneLater}
+use Rattle.loop_core.specs.Waits.{Waits}
 use Rattle.loop_core.specs.Peers.{BecomeInOrder, IsOwed, Standing, awaited_in}
 use Rattle.loop_core.proofs.Keeping.{among_itself, first_owed, first_settled, or_false, or_true, rest_owed}
 use Rattle.loop_core.proofs.peer.settle_all.Goals as goal

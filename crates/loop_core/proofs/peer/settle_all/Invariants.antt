@@ -1,7 +1,7 @@
 use Rattle.std.proofs.Common.{◌≡◌, true, []}
 use Rattle.std.specs.List.{All}
 use Rattle.std.specs.Vec.Iter.{into_iter_items, into_iter_len}
-use Rattle.buffer_lanes.specs.Lanes.{NoneLater}
+use Rattle.loop_core.specs.Lanes.{NoneLater}
 use Rattle.loop_core.specs.Peers.{AreAmong, BecomeInOrder, Standing, IsOwed, IsFaithful, awaited_in}
 use Rattle.loop_core.proofs.peer.settle_all.Given as goal
 

@@ -3,7 +3,7 @@ use Rattle.std.specs.Prelude.{Contains, ◌==◌, not}
 use Rattle.std.proofs.lemmas.Bool.Decides.{nat_tests}
 use Rattle.std.proofs.lemmas.List.{nil_from_length}
 use Rattle.std.proofs.lemmas.List.Elements.{All-push, All-same}
-use Rattle.buffer_lanes.specs.Waits.{Waits}
+use Rattle.loop_core.specs.Waits.{Waits}
 use Rattle.loop_core.specs.Peers.{IsFaithful}
 use Rattle.loop_core.proofs.Keeping.{answer_becomes, answer_earned, answer_demanded, answered, none_waits, refused_becomes, shut_out_becomes, still_owed, waits_on_becomes, waits_too}
 use Rattle.loop_core.proofs.peer.settle_one.Goals as goal

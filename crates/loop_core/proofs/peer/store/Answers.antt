@@ -1,5 +1,5 @@
 use Rattle.std.proofs.Common.{inr, ap}
-use Rattle.buffer_lanes.specs.Waits.{Waits}
+use Rattle.loop_core.specs.Waits.{Waits}
 use Rattle.loop_core.proofs.peer.store.Goals as goal
 
 pub returns-in-Ok-clause-waits : goal.returns-in-Ok-clause-waits

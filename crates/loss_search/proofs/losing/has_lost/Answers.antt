@@ -1,7 +1,7 @@
 use Rattle.std.proofs.Common.{length, ap, sym, ◌∙◌, arith}
 use Rattle.std.proofs.lemmas.List.{length-map}
 use Rattle.custody_steps.specs.WorldOf.{net_of, world_of}
-use Rattle.message_book.specs.Book.{told_of}
+use Rattle.custody_store.specs.Book.{told_of}
 use Rattle.custody_steps.proofs.Keeping.{never}
 use Rattle.loss_search.specs.Losses.{HasLost}
 use Rattle.loss_search.proofs.LosingSteps.{kept_more, lost_there, none_lost}

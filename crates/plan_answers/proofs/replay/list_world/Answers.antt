@@ -1,7 +1,7 @@
 use Rattle.std.proofs.Common.{◌≡◌, ℕ, ◌++◌, length, ap, sym, ◌∙◌, subst, rules}
 use Rattle.std.proofs.lemmas.List.{length-map}
 use Rattle.custody_steps.specs.WorldOf.{world_of}
-use Rattle.message_book.specs.Book.{told_of}
+use Rattle.custody_store.specs.Book.{told_of}
 use Rattle.plan_answers.specs.Replays.{summary_line}
 use Rattle.plan_answers.proofs.replay.list_world.Goals as goal
 

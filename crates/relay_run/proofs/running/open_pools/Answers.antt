@@ -1,6 +1,6 @@
 use Rattle.std.specs.Vec.Iter.{into_iter_items}
 use Rattle.std.proofs.lemmas.List.Elements.{All-push, All-same}
-use Rattle.relay_buffers.proofs.Moving.{moved}
+use Rattle.loop_core.proofs.Moving.{moved}
 use Rattle.relay_run.specs.Running.{IsPoolOf, PoolState}
 use Rattle.relay_run.proofs.running.open_pools.Goals as goal
 

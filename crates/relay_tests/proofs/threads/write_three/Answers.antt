@@ -2,7 +2,7 @@ use denote.Param.Send.{sendable}
 use Rattle.std.proofs.Crossing.{crosses}
 use Rattle.sink_series.proofs.answers.Answers.TheLaws.TheKnot as answers
 use Rattle.sink_series.proofs.begun.Begun.TheLaws.TheKnot as begun
-use Rattle.sink_rotation.proofs.closed.Closed.TheLaws.TheKnot as closed
+use Rattle.sink_series.proofs.closed.Closed.TheLaws.TheKnot as closed
 use Rattle.relay_tests.proofs.Sharing.{Rotation-send, Teller-here-send, Teller-here-sync}
 use Rattle.relay_tests.proofs.threads.write_three.Goals as goal
 

@@ -1,5 +1,5 @@
 use Rattle.std.proofs.Common.{Option, Some, refl, rules, subst}
-use Rattle.buffer_book.specs.Evidences.{Shows}
+use Rattle.ack_receipt.specs.Evidences.{Shows}
 use Rattle.tcp_courier.specs.Talks.{Hears}
 use Rattle.tcp_courier.proofs.Going.{AwaitsOn-none, AwaitsOn-heard, AwaitsOn-seen}
 use Rattle.tcp_courier.proofs.exchange.acknowledged.Goals as goal

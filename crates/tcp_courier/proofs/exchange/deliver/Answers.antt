@@ -1,6 +1,6 @@
 use Rattle.std.proofs.Common.{◌≡◌, sym, subst, Bool, true, false, rules}
 use Rattle.std.specs.Prelude.{IfOk}
-use Rattle.buffer_book.specs.Claims.{id_of}
+use Rattle.ack_receipt.specs.Claims.{id_of}
 use Rattle.tcp_courier.specs.Carrying.{NamesChunk}
 use Rattle.tcp_courier.proofs.Going.{asked_phase, said_whole, delivered_unasked, delivered_asked, well_too}
 use Rattle.tcp_courier.proofs.exchange.deliver.Goals as goal

@@ -4,7 +4,7 @@ use Rattle.std.proofs.lemmas.Result.{on_ok_weaker}
 use Rattle.relay_conf.specs.declared.output.Output.{Output}
 use Rattle.relay_net.specs.Network.{address_of_server}
 use Rattle.relay_net.specs.Outputs.{servers_of}
-use Rattle.routed_tags.specs.Routed.{SendsTo}
+use Rattle.relay_net.specs.Routed.{SendsTo}
 use Rattle.way_listing.specs.Sendings.{Sending, Through, sending}
 use Rattle.way_listing.proofs.Adding.{adds_as, adds_never}
 use Rattle.way_listing.proofs.Sending.{sent_by, by_server}

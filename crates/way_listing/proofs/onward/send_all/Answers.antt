@@ -1,6 +1,6 @@
 use Rattle.std.proofs.Common.{◌≡◌, arith}
 use Rattle.std.proofs.lemmas.List.{take_all, take_more}
-use Rattle.routed_tags.specs.Routed.{SendsTo}
+use Rattle.relay_net.specs.Routed.{SendsTo}
 use Rattle.way_listing.proofs.Adding.{adds_none, adds_more}
 use Rattle.way_listing.proofs.onward.send_all.Goals as goal
 

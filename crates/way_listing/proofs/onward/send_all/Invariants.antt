@@ -1,5 +1,5 @@
 use Rattle.std.proofs.Common.{◌≡◌, take}
-use Rattle.routed_tags.specs.Routed.{SendsTo}
+use Rattle.relay_net.specs.Routed.{SendsTo}
 use Rattle.way_listing.specs.Sendings.{Adds, Through}
 use Rattle.way_listing.proofs.onward.send_all.Given as goal
 

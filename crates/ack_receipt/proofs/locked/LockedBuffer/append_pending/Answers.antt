@@ -1,7 +1,7 @@
 use Rattle.std.proofs.Common.{ap, sym, subst, ◌∙◌}
 use Rattle.std.specs.Prelude.{Ok}
 use Rattle.std.proofs.lemmas.Result.{err_from_is_err_and}
-use Rattle.buffer_book.specs.Books.{Book, Steady}
+use Rattle.ack_receipt.specs.Books.{Book, Steady}
 use Rattle.ack_receipt.proofs.Appending.{appends_so, lines_so, stays_itself, stays_so, waits_so}
 use Rattle.ack_receipt.proofs.Steady.{steady_memory, steady_ok, steady_refused, steady_unasked}
 use Rattle.ack_receipt.proofs.locked.LockedBuffer.append_pending.Goals as goal

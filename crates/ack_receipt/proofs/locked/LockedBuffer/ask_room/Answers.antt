@@ -1,6 +1,6 @@
 use Rattle.std.proofs.Common.{ℕ, ◌≡◌, ◌∙◌, List, Err, ap, subst}
 use Rattle.std.specs.Prelude.{OnOk}
-use Rattle.buffer_book.specs.Books.{Book}
+use Rattle.ack_receipt.specs.Books.{Book}
 use Rattle.buffer_state.specs.Steps.{planned}
 use Rattle.buffer_state.specs.declared.limits.AppendFault.TheVariants.{Full}
 use Rattle.buffer_store.specs.declared.fault.BufferFault.{BufferFault}

@@ -1,6 +1,6 @@
 use Rattle.std.proofs.Common.{sym, subst, rules}
-use Rattle.buffer_book.specs.Books.{Book}
-use Rattle.buffer_book.specs.Evidences.{CanCompare}
+use Rattle.ack_receipt.specs.Books.{Book}
+use Rattle.ack_receipt.specs.Evidences.{CanCompare}
 use Rattle.ack_receipt.proofs.locked.LockedBuffer.purge.Goals as goal
 
 pub returns-clause-serves : goal.returns-clause-serves

@@ -3,8 +3,8 @@ use Rattle.std.specs.Prelude.{All, ◌↔◌}
 use Rattle.std.proofs.lemmas.Bool.{false≢true}
 use Rattle.book_audit.specs.declared.line.Leaf.{Leaf}
 use Rattle.book_audit.specs.declared.line.Line.{Line}
-use Rattle.buffer_book.specs.Books.{Book, Syncs}
-use Rattle.buffer_book.specs.declared.past.Written.{Written}
+use Rattle.ack_receipt.specs.Books.{Book, Syncs}
+use Rattle.ack_receipt.specs.declared.past.Written.{Written}
 use Rattle.buffer_store.specs.declared.fault.BufferFault.{BufferFault}
 use Rattle.buffer_store.specs.declared.fault.BufferFault.TheVariants.{Failed, Fault, Memory}
 use Rattle.ack_receipt.specs.Deliveries.{Pended}

@@ -2,7 +2,7 @@ use Rattle.std.proofs.Common.{◌≡◌, ◌↔◌, subst}
 use Rattle.std.specs.Prelude.{Err}
 use Rattle.book_audit.specs.Audits.{AreInBook}
 use Rattle.book_audit.specs.declared.fault.BookFault.TheVariants.{Stranger}
-use Rattle.buffer_book.specs.Books.{Book}
+use Rattle.ack_receipt.specs.Books.{Book}
 use Rattle.ack_receipt.specs.Terms.{Terms}
 use Rattle.ack_receipt.proofs.locked.LockedBuffer.settle.Goals as goal
 

@@ -3,8 +3,8 @@ use Rattle.std.specs.Prelude.{All}
 use Rattle.std.specs.Vec.Iter.{into_iter_items}
 use Rattle.std.proofs.lemmas.List.{length-append, map-append, nil_from_length}
 use Rattle.std.proofs.lemmas.List.Elements.{All-head, All-tail}
-use Rattle.buffer_book.specs.Books.{Book}
-use Rattle.buffer_book.specs.declared.past.Written.{Written}
+use Rattle.ack_receipt.specs.Books.{Book}
+use Rattle.ack_receipt.specs.declared.past.Written.{Written}
 use Rattle.ack_receipt.specs.Deliveries.{Appended, Pended}
 use Rattle.ack_receipt.specs.Redeeming.{AreApart, AreBefore, IsRedeemable, Origin, numbers_from, origin_of, origin_of_pending, written_of}
 use Rattle.ack_receipt.proofs.Redeem.{all_made, all_written, apart_head, apart_tail, room_first, waits_on}

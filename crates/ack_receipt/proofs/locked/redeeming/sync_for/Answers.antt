@@ -5,7 +5,7 @@ use Rattle.std.proofs.lemmas.List.Elements.{All-weaker}
 use Rattle.std.proofs.lemmas.Option.{slice_get_within}
 use Rattle.book_audit.specs.declared.line.Leaf.{Leaf}
 use Rattle.book_audit.specs.declared.line.Line.{Line}
-use Rattle.buffer_book.specs.Books.{Book, IsSound, waiting_at}
+use Rattle.ack_receipt.specs.Books.{Book, IsSound, waiting_at}
 use Rattle.ack_receipt.specs.Deliveries.{Pended}
 use Rattle.ack_receipt.specs.Redeeming.{AreBefore, IsRedeemable, line_of}
 use Rattle.ack_receipt.proofs.locked.redeeming.sync_for.Goals as goal

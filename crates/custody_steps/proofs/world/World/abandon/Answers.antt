@@ -3,7 +3,7 @@ use Rattle.std.proofs.lemmas.Grind.{common_steps}
 use Rattle.custody_steps.proofs.Delivered.{ended-along, ended-same}
 use Rattle.custody_steps.proofs.Keeping as keeping
 use Rattle.custody_steps.proofs.world.World.abandon.Goals as goal
-use Rattle.message_book.specs.Book.{ended}
+use Rattle.custody_store.specs.Book.{ended}
 
 pub returns-in_default-clause-answer : goal.returns-in_default-clause-answer
 returns-in_default-clause-answer g c =

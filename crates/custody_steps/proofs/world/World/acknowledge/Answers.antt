@@ -1,7 +1,7 @@
 use Rattle.std.proofs.Common.{◌≡◌, true, refl, sym, ap, ◌∙◌, arith}
 use Rattle.std.proofs.lemmas.Bool.{false≢true}
 use Rattle.std.proofs.lemmas.Result.{err_from_is_err_and}
-use Rattle.message_book.specs.Book.{changed_at, ended}
+use Rattle.custody_store.specs.Book.{changed_at, ended}
 use Rattle.custody_steps.specs.Steps.{CanAcknowledge, answered}
 use Rattle.custody_steps.specs.World.{World}
 use Rattle.custody_steps.specs.WorldOf.{world_of}

@@ -1,7 +1,7 @@
 use Rattle.std.proofs.Common.{◌≡◌, [], ◌++◌, slice_get, ◌∙◌}
 use Rattle.std.specs.Option.{option_map_or}
-use Rattle.kept_branches.proofs.Lists.{some_and}
-use Rattle.message_book.specs.Book.{Message, events_told}
+use Rattle.custody_store.proofs.Lists.{some_and}
+use Rattle.custody_store.specs.Book.{Message, events_told}
 use Rattle.custody_steps.proofs.Keeping as keeping
 use Rattle.custody_steps.proofs.world.World.answer.Goals as goal
 

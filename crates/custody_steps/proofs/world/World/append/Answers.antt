@@ -1,7 +1,7 @@
 use Rattle.std.proofs.Common.{◌≡◌, ◌∙◌, rules, true, refl, sym, Contains}
 use Rattle.std.proofs.lemmas.Bool.{false≢true}
 use Rattle.custody_store.specs.Buffers.{CanTake}
-use Rattle.message_book.specs.Book.{Message, Delivery}
+use Rattle.custody_store.specs.Book.{Message, Delivery}
 use Rattle.custody_steps.specs.Steps.{CanAppend}
 use Rattle.custody_steps.specs.WorldOf.{world_of}
 use Rattle.custody_steps.proofs.Keeping as keeping

@@ -2,7 +2,7 @@ use Rattle.std.proofs.Common.{◌≡◌, ◌≤◌, ◌++◌, Ok, Err, ◌∷◌
 use Rattle.std.proofs.lemmas.Bool.{cases_lt, false≢true}
 use Rattle.std.proofs.lemmas.Option.{slice_get_within}
 use Rattle.std.proofs.lemmas.Result.{err_from_is_err_and}
-use Rattle.message_book.specs.Book.{Delivery}
+use Rattle.custody_store.specs.Book.{Delivery}
 use Rattle.relay_net.specs.Ways.{HasLoop}
 use Rattle.custody_steps.specs.Steps.{tag_of}
 use Rattle.custody_steps.specs.WorldOf.{world_from, world_of}

@@ -1,7 +1,7 @@
 use Rattle.std.proofs.Common.{◌≡◌, ℕ, true, sym, ◌∙◌, Contains, IsTrue, ◌↔◌}
 use Rattle.std.proofs.lemmas.Bool.{false≢true}
 use Rattle.std.proofs.lemmas.Result.{IfOk-weaker}
-use Rattle.message_book.specs.Book.{Message, Delivery}
+use Rattle.custody_store.specs.Book.{Message, Delivery}
 use Rattle.relay_net.specs.Ways.{HasLeaf}
 use Rattle.custody_steps.specs.Steps.{CanAcknowledge, OfDelivery}
 use Rattle.custody_steps.specs.WorldOf.{world_of}

@@ -2,7 +2,7 @@ use Rattle.std.proofs.Common.{◌≡◌, true, sym, ◌∙◌, Contains, IsTrue,
 use Rattle.std.proofs.lemmas.Bool.{false≢true}
 use Rattle.std.proofs.lemmas.Result.{IfOk-weaker}
 use Rattle.custody_store.specs.Buffers.{CanTake}
-use Rattle.message_book.specs.Book.{Message, Delivery}
+use Rattle.custody_store.specs.Book.{Message, Delivery}
 use Rattle.relay_net.specs.Ways.{HasLeaf}
 use Rattle.custody_steps.specs.Steps.{CanAppend, OfDelivery}
 use Rattle.custody_steps.specs.WorldOf.{world_of}

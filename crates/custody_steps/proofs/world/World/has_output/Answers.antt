@@ -1,5 +1,5 @@
 use Rattle.std.proofs.Common.{IsSome}
-use Rattle.message_book.specs.Book.{Delivery}
+use Rattle.custody_store.specs.Book.{Delivery}
 use Rattle.relay_net.specs.Network.{output_at}
 use Rattle.custody_steps.proofs.Keeping as keeping
 use Rattle.custody_steps.proofs.world.World.has_output.Goals as goal

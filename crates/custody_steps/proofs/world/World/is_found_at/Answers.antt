@@ -1,7 +1,7 @@
 use Rattle.std.proofs.Common.{◌↔◌, IsTrue}
 use Rattle.std.proofs.lemmas.Result.{IfOk-weaker}
 use Rattle.relay_net.specs.Addresses.{Address}
-use Rattle.routed_tags.specs.Routed.{IsRoutedTag}
+use Rattle.relay_net.specs.Routed.{IsRoutedTag}
 use Rattle.custody_store.specs.Contents.{event_of}
 use Rattle.custody_steps.specs.Held.{HeldAs}
 use Rattle.custody_steps.specs.WorldOf.{world_of, net_of}

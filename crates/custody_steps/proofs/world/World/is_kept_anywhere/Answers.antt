@@ -4,7 +4,7 @@ use Rattle.std.proofs.lemmas.Bool.{both_ways}
 use Rattle.std.proofs.lemmas.List.{get_or_read}
 use Rattle.custody_store.proofs.Members.{shown_contains}
 use Rattle.relay_net.specs.Addresses.{Address}
-use Rattle.routed_tags.specs.Routed.{IsRoutedTag}
+use Rattle.relay_net.specs.Routed.{IsRoutedTag}
 use Rattle.custody_steps.specs.Held.{Held}
 use Rattle.custody_steps.specs.WorldOf.{world_of, net_of}
 use Rattle.custody_steps.proofs.world.World.is_kept_anywhere.Goals as goal

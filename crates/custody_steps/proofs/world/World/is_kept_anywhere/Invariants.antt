@@ -2,7 +2,7 @@ use Rattle.std.proofs.Common.{◌≡◌, ℕ, ◌<◌, get_or}
 use Rattle.std.specs.declared.vec.Vec.{Vec}
 use Rattle.custody_steps.specs.Held.{Held}
 use Rattle.custody_steps.specs.WorldOf.{world_of, net_of}
-use Rattle.routed_tags.specs.Routed.{IsRoutedTag}
+use Rattle.relay_net.specs.Routed.{IsRoutedTag}
 use Rattle.custody_steps.proofs.world.World.is_kept_anywhere.Given as goal
 
 abbrev pub invariant-loop-tag : goal.invariant-loop-tag

@@ -2,7 +2,7 @@ use Rattle.std.proofs.Common.{◌≡◌, List, Some, None, option_map, slice_get
 use Rattle.std.specs.Option.{option_copied}
 use Rattle.std.proofs.lemmas.Option.{same_Some, slice_get-map}
 use Rattle.custody_steps.specs.Branches.{KeepsSo}
-use Rattle.message_book.specs.Book.{Told, told_of}
+use Rattle.custody_store.specs.Book.{Told, told_of}
 use Rattle.relay_net.specs.Addresses.{Address}
 use Rattle.relay_net.specs.Network.{address_of_client}
 use Rattle.relay_net.specs.declared.node.Client.{Client}

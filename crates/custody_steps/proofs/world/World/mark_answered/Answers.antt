@@ -1,7 +1,7 @@
 use Rattle.std.proofs.Common.{◌≡◌, refl, ◌∙◌}
 use Rattle.std.proofs.lemmas.Option.{slice_get_within}
-use Rattle.kept_branches.proofs.Lists.{some_and}
-use Rattle.message_book.specs.Book.{Message}
+use Rattle.custody_store.proofs.Lists.{some_and}
+use Rattle.custody_store.specs.Book.{Message}
 use Rattle.custody_steps.specs.WorldOf.{world_of}
 use Rattle.std.proofs.Common.{slice_get}
 use Rattle.custody_steps.proofs.Answering.{flagged_world}

@@ -1,6 +1,6 @@
 use Rattle.std.proofs.Common.{◌∙◌, ap}
 use Rattle.custody_store.specs.Contents.{buffer_of}
-use Rattle.message_book.specs.Book.{Book}
+use Rattle.custody_store.specs.Book.{Book}
 use Rattle.custody_steps.specs.World.{initial_world}
 use Rattle.custody_steps.specs.WorldOf.{world_from}
 use Rattle.custody_steps.proofs.Opening.{known_opening}

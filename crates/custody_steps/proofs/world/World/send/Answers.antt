@@ -3,8 +3,8 @@ use Rattle.std.specs.Option.{option_copied}
 use Rattle.std.proofs.lemmas.Bool.{false≢true}
 use Rattle.std.proofs.lemmas.Option.{slice_get_within}
 use Rattle.std.proofs.lemmas.Result.{err_from_is_err_and}
-use Rattle.message_book.specs.Book.{Message}
-use Rattle.message_book.specs.declared.sender.Sender.TheVariants as sender
+use Rattle.custody_store.specs.Book.{Message}
+use Rattle.custody_store.specs.declared.sender.Sender.TheVariants as sender
 use Rattle.relay_net.specs.Network.{address_of_client}
 use Rattle.step_lines.specs.Texts.{texts_of}
 use Rattle.custody_steps.specs.WorldOf.{world_from, world_of}

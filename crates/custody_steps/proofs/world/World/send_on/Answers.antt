@@ -3,9 +3,9 @@ use Rattle.custody_store.specs.Buffers.{Chunk}
 use Rattle.custody_store.specs.Contents.{parts_of}
 use Rattle.custody_store.specs.Copies.{copied_parts}
 use Rattle.custody_store.specs.declared.chunk.Stage.TheVariants.{Claimed}
-use Rattle.kept_branches.proofs.Lists.{some_and}
-use Rattle.message_book.specs.Book.{Message}
-use Rattle.message_book.specs.declared.sender.Sender.TheVariants as sender
+use Rattle.custody_store.proofs.Lists.{some_and}
+use Rattle.custody_store.specs.Book.{Message}
+use Rattle.custody_store.specs.declared.sender.Sender.TheVariants as sender
 use Rattle.step_lines.specs.Texts.{texts_of}
 use Rattle.custody_steps.specs.Found.{chunk_of, with_found}
 use Rattle.custody_steps.specs.WorldOf.{world_of}

@@ -1,6 +1,6 @@
 use Rattle.std.proofs.Common.{refl, ap, ◌∙◌, arith}
 use Rattle.std.proofs.lemmas.Option.{slice_get_within}
-use Rattle.message_book.specs.Book.{Book, Message, Delivery, changed_at, appended_to_buffer, with_room, less_room}
+use Rattle.custody_store.specs.Book.{Book, Message, Delivery, changed_at, appended_to_buffer, with_room, less_room}
 use Rattle.custody_steps.specs.Steps.{CanAppend, with_appended}
 use Rattle.custody_steps.specs.WorldOf.{world_of, world_from}
 use Rattle.custody_steps.proofs.Delivered.{appended-same}

@@ -1,7 +1,7 @@
 use Rattle.std.proofs.Common.{◌≡◌, ℕ, sym, ap, ◌∙◌}
 use Rattle.std.specs.Prelude.{Some}
-use Rattle.buffer_book.specs.Claims.{Claimed}
-use Rattle.buffer_book.specs.Evidences.{Shows}
+use Rattle.ack_receipt.specs.Claims.{Claimed}
+use Rattle.ack_receipt.specs.Evidences.{Shows}
 use Rattle.flush_pool.specs.Acts.{Place, Purged, did, last}
 use Rattle.flush_pool.specs.Laws.{WasPurged}
 use Rattle.flush_pool.proofs.worker.Worker.let_go.Goals as goal

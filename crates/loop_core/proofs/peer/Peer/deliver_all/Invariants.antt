@@ -3,7 +3,7 @@ use Rattle.std.specs.List.{All}
 use Rattle.forward_core.specs.Demands.{asked_in, wanted}
 use Rattle.forward_core.specs.Server.{IsAskedIn}
 use Rattle.std.specs.Vec.Iter.{into_iter_items, into_iter_len}
-use Rattle.buffer_lanes.specs.Lanes.{KeepsLanes}
+use Rattle.loop_core.specs.Lanes.{KeepsLanes}
 use Rattle.loop_core.specs.Peers.{GoOnWaiting, wants_close}
 use Rattle.loop_core.proofs.peer.Peer.deliver_all.Given as goal
 

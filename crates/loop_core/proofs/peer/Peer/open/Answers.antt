@@ -2,7 +2,7 @@ use Rattle.std.proofs.Common.{List, [], sym, subst}
 use Rattle.std.specs.Arc.{arc_value}
 use Rattle.forward_core.specs.Server.{ServerState}
 use Rattle.loop_core.specs.Peers.{IsFaithful}
-use Rattle.buffer_lanes.specs.Waits.{Waits}
+use Rattle.loop_core.specs.Waits.{Waits}
 use Rattle.loop_core.proofs.Keeping.{opened}
 use Rattle.loop_core.proofs.peer.Peer.open.Goals as goal
 

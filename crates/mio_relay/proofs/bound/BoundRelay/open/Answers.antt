@@ -1,8 +1,8 @@
 use Rattle.std.proofs.Common.{◌∙◌, List, ap, map, subst, sym}
 use Rattle.ack_receipt.specs.Terms.{Terms}
-use Rattle.buffer_lanes.specs.Schedules.{Plan}
-use Rattle.relay_buffers.specs.Buffers.{AreBuffersOf, ArePlaced, ArePlanned, OpenState}
-use Rattle.relay_buffers.specs.Owners.{Owned}
+use Rattle.loop_core.specs.Schedules.{Plan}
+use Rattle.loop_core.specs.Buffers.{AreBuffersOf, ArePlaced, ArePlanned, OpenState}
+use Rattle.loop_core.specs.Owners.{Owned}
 use Rattle.mio_relay.specs.Connections.{ArePortsOf, Hosted, Served, sources_in}
 use Rattle.mio_relay.specs.Loops.{BoundState}
 use Rattle.mio_relay.proofs.Listening.{map_again}

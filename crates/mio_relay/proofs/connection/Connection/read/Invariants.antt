@@ -1,5 +1,5 @@
 use Rattle.std.proofs.Common.{◌≡◌, ◌≤◌, ◌+◌, ◌⊎◌, true, length}
-use Rattle.buffer_lanes.specs.Lanes.{KeepsLanes}
+use Rattle.loop_core.specs.Lanes.{KeepsLanes}
 use Rattle.mio_relay.specs.Connections.{AreReceived, IsSameConnection, MayRead}
 use Rattle.mio_relay.proofs.connection.Connection.read.Given as goal
 

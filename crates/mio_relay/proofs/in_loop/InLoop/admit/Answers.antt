@@ -1,7 +1,7 @@
 use Rattle.std.proofs.Common.{◌≤◌, ◌∙◌, List, ap, refl, subst, sym}
 use Rattle.relay_sockets.specs.Endpoints.{Endpoint}
 use Rattle.mio_relay.specs.Connections.{AreListening, sources_in}
-use Rattle.buffer_lanes.specs.Lanes.{KeepsLanes}
+use Rattle.loop_core.specs.Lanes.{KeepsLanes}
 use Rattle.mio_relay.specs.Loops.{LoopState}
 use Rattle.mio_relay.proofs.Turning.{takes_more, takes_standing}
 use Rattle.mio_relay.proofs.in_loop.InLoop.admit.Goals as goal

@@ -1,7 +1,7 @@
 use Rattle.std.proofs.Common.{◌≤◌, ◌∙◌, List, ap, refl, subst, sym}
 use Rattle.std.specs.Prelude.{IsSomeAnd, slice_get}
 use Rattle.mio_relay.specs.Connections.{BeginsAt, ConnectionState, Hosted}
-use Rattle.buffer_lanes.specs.Lanes.{KeepsLanes}
+use Rattle.loop_core.specs.Lanes.{KeepsLanes}
 use Rattle.mio_relay.specs.Loops.{LoopState}
 use Rattle.mio_relay.proofs.Slots.{begins_served}
 use Rattle.mio_relay.proofs.Turning.{takes_more, takes_none}

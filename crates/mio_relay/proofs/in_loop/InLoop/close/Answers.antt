@@ -1,5 +1,5 @@
 use Rattle.std.proofs.Common.{◌∙◌, ◌+◌, List, ap, refl, sym, subst}
-use Rattle.buffer_lanes.specs.Lanes.{LanesState}
+use Rattle.loop_core.specs.Lanes.{LanesState}
 use Rattle.relay_sockets.specs.Endpoints.{Endpoint}
 use Rattle.mio_relay.specs.Connections.{AreInTimeBelow, AreListening}
 use Rattle.mio_relay.specs.Loops.{LoopState}

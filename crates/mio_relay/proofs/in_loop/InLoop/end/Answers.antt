@@ -1,6 +1,6 @@
 use Rattle.std.proofs.Common.{◌∙◌, ap, Option}
 use Rattle.buffer_store.specs.declared.fault.BufferFault.{BufferFault}
-use Rattle.buffer_lanes.specs.Lanes.{LanesState}
+use Rattle.loop_core.specs.Lanes.{LanesState}
 use Rattle.mio_relay.specs.Faults.{told_of}
 use Rattle.mio_relay.specs.Loops.{LoopState}
 use Rattle.mio_relay.proofs.in_loop.InLoop.end.Goals as goal

@@ -1,5 +1,5 @@
 use Rattle.std.proofs.Common.{◌∙◌, ap, refl, sym, subst}
-use Rattle.buffer_lanes.specs.Lanes.{LanesState}
+use Rattle.loop_core.specs.Lanes.{LanesState}
 use Rattle.mio_relay.specs.Connections.{IsServed}
 use Rattle.mio_relay.specs.Loops.{LoopState}
 use Rattle.mio_relay.proofs.Staying.{stays_on}

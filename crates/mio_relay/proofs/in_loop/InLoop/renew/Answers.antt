@@ -1,5 +1,5 @@
 use Rattle.std.proofs.Common.{ap, refl}
-use Rattle.buffer_lanes.specs.Lanes.{LanesState}
+use Rattle.loop_core.specs.Lanes.{LanesState}
 use Rattle.mio_relay.proofs.Staying.{rests_on}
 use Rattle.mio_relay.proofs.Turning.{takes_none}
 use Rattle.mio_relay.proofs.in_loop.InLoop.renew.Goals as goal

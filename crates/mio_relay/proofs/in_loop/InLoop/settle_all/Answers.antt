@@ -1,5 +1,5 @@
 use Rattle.std.proofs.Common.{◌∙◌, refl, subst, sym}
-use Rattle.buffer_lanes.specs.Lanes.{LanesState, NoneLater}
+use Rattle.loop_core.specs.Lanes.{LanesState, NoneLater}
 use Rattle.mio_relay.specs.Connections.{HoldsNone}
 use Rattle.mio_relay.proofs.Slots.{none_below}
 use Rattle.mio_relay.proofs.Staying.{stays_more, stays_same}

@@ -1,5 +1,5 @@
 use Rattle.std.proofs.Common.{◌≡◌, length}
-use Rattle.buffer_lanes.specs.Lanes.{NoneLater}
+use Rattle.loop_core.specs.Lanes.{NoneLater}
 use Rattle.mio_relay.specs.Connections.{AreSettledBelow}
 use Rattle.mio_relay.specs.Loops.{Stays, TakesIn}
 use Rattle.mio_relay.proofs.in_loop.InLoop.settle_all.Given as goal

@@ -1,5 +1,5 @@
 use Rattle.std.proofs.Common.{◌∙◌, ap, sym, subst, refl}
-use Rattle.buffer_lanes.specs.Lanes.{LanesState, NoneLater}
+use Rattle.loop_core.specs.Lanes.{LanesState, NoneLater}
 use Rattle.mio_relay.specs.Connections.{AreSettledBelow}
 use Rattle.mio_relay.specs.Loops.{LoopState}
 use Rattle.mio_relay.proofs.Turning.{takes_standing}

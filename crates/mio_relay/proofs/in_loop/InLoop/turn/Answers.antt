@@ -1,6 +1,6 @@
 use Rattle.std.proofs.Common.{◌≡◌, ◌≤◌, subst, sym}
 use Rattle.std.specs.Prelude.{OnOk}
-use Rattle.buffer_lanes.specs.Lanes.{AreQueued, NoneLater}
+use Rattle.loop_core.specs.Lanes.{AreQueued, NoneLater}
 use Rattle.mio_relay.specs.Connections.{AreFlushed, AreInTime, AreSettled}
 use Rattle.mio_relay.specs.Holding.{held_in, most_held}
 use Rattle.mio_relay.specs.Loops.{IsTimeAfter, LoopState, OnlyLaterWait}

@@ -1,5 +1,5 @@
 use Rattle.std.proofs.Common.{◌∙◌, ℕ, ap, subst, sym}
-use Rattle.buffer_lanes.specs.Lanes.{LanesState, NoneLater}
+use Rattle.loop_core.specs.Lanes.{LanesState, NoneLater}
 use Rattle.mio_relay.specs.Connections.{AreInTime}
 use Rattle.mio_relay.proofs.Refusing.{went_well}
 use Rattle.mio_relay.proofs.Slots.{on_ok}

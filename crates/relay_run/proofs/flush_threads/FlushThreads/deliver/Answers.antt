@@ -1,5 +1,5 @@
 use Rattle.std.proofs.Common.{◌≡◌, ◌∙◌, ap, refl}
-use Rattle.relay_buffers.specs.Owners.{Owned}
+use Rattle.loop_core.specs.Owners.{Owned}
 use Rattle.relay_ports.specs.Outputs.{settings_of}
 use Rattle.relay_run.proofs.Ending.{ended_at}
 use Rattle.relay_run.proofs.flush_threads.FlushThreads.deliver.Goals as goal

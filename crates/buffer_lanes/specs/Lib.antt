@@ -1,4 +1,0 @@
-pub mod Waits
-pub mod Collecting
-pub mod Lanes
-pub mod Schedules

@@ -1,5 +1,0 @@
-use Rattle.message_book.proofs.Changes.{got_delivery}
-use Rattle.message_book.proofs.book.Book.delivery.Goals as goal
-
-pub returns : goal.returns
-returns g c = rw (← c.self.view_is) (got_delivery c.self.inside.deliveries.items c.deref.result.now c.args.number c.get.result c.deref.ensures.value c.get.ensures.lookup)

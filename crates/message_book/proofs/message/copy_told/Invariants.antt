@@ -1,7 +1,0 @@
-use Rattle.std.proofs.Common.{◌≡◌, take}
-use Rattle.step_lines.specs.Texts.{texts_of}
-use Rattle.message_book.specs.Book.{told_events, told_to}
-use Rattle.message_book.proofs.message.copy_told.Given as goal
-
-abbrev pub invariant-loop-entry : goal.invariant-loop-entry
-invariant-loop-entry g l = told_events l.events.items ≡ told_to l.client l.tag (texts_of (take l.entry-index l.entries))

@@ -1,3 +1,0 @@
-pub mod Owners
-pub mod Buffers
-pub mod Folders

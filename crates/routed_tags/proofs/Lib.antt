@@ -1,4 +1,0 @@
-pub mod Fronts
-pub mod Growing
-pub mod Reaching
-pub mod Sending
