@@ -1,5 +1,5 @@
 use Rattle.std.specs.Vec.Iter.{into_iter_len}
-use Rattle.library_tests.proofs.pendings.spend_all.Given as goal
+use Rattle.buffer_tests.proofs.pendings.spend_all.Given as goal
 
 abbrev pub invariant-loop-receipt : goal.invariant-loop-receipt
 invariant-loop-receipt l = Unit {0}
