@@ -1,26 +1,41 @@
 //! What lets chunks go.
 
+use crate::devices::{Failing, Stopping};
+use crate::parts::{Part, Shared, in_memory};
+use crate::script::WIDE;
 use crate::shelves::{
-    ENTRY, LEAF, Shelf, WIDE, buffer_in, dropped, eager_in, enqueue, is_live, shelf_in, stored,
+    ENTRY, LEAF, Shelf, buffer_in, dropped, eager_in, enqueue, is_live, shelf_in, stored,
 };
-use ack_receipt::{Basis, Claim, Evidence, Leaf, Numbers, PurgeFault, SharedBuffer, Takes};
+use crate::sinks::{opened, written};
+use ack_receipt::{Basis, Evidence, Numbers, PurgeFault, SharedBuffer, Takes};
 use buffer_store::BufferFault;
-use disk_files::{Dir, Fuse, MemoryDir};
-use event_modes::Entries;
-use sink_series::{Series, SeriesFault, Stored};
-use std::alloc::Global;
+use disk_files::Dir;
+use sink_series::Stored;
+use std::alloc::{AllocError, Global};
 use std::sync::Wait;
-use std::test::Fail;
 
-// A shared buffer in this folder, whose chunks go by what is stored in the sink `all`.
-fn by_sink<D: Dir + Drop>(alloc: Global, dir: D) -> Result<Shelf<D>, BufferFault> {
-    let buffer = buffer_in(alloc, dir, WIDE)?;
-    let takes = Takes {
+// What lets chunks go: what is stored in the sink `all`.
+fn takes(alloc: Global) -> Result<Takes<Global>, AllocError> {
+    Ok(Takes {
         basis: Basis::Stored(Vec::from_slice(alloc, b"all")?),
         expires: false,
         drops: false,
-    };
-    Ok(SharedBuffer::new(alloc, buffer, LEAF, takes))
+    })
+}
+
+// A shared buffer in this folder, whose chunks go by that.
+fn by<D: Dir + Drop>(alloc: Global, dir: D, takes: Takes<Global>) -> Result<Shelf<D>, BufferFault> {
+    match buffer_in(alloc, dir, WIDE) {
+        Ok(buffer) => Ok(SharedBuffer::new(alloc, buffer, LEAF, takes)),
+        Err(fault) => Err(fault),
+    }
+}
+
+fn by_sink<D: Dir + Drop>(alloc: Global, dir: D) -> Result<Shelf<D>, BufferFault> {
+    match takes(alloc) {
+        Ok(takes) => by(alloc, dir, takes),
+        Err(AllocError) => Err(BufferFault::Memory),
+    }
 }
 
 // Stores one message there, and queues its chunk.
@@ -38,75 +53,77 @@ struct Purge {
 }
 
 // What a sink in this folder gives for those entries.
-fn stored_in<D: Dir + Drop>(
-    alloc: Global,
-    dir: D,
-    purge: &Purge,
-) -> Result<Stored<Global>, SeriesFault> {
-    let mut series = Series::open(alloc, dir, purge.path).map_err(|(fault, _dir)| fault)?;
-    stored_by(alloc, &mut series, purge)
-}
-
-fn stored_by<D: Dir>(
-    alloc: Global,
-    series: &mut Series<D, Global>,
-    purge: &Purge,
-) -> Result<Stored<Global>, SeriesFault> {
-    if purge.tag.len() > 1_024 {
-        return Err(SeriesFault::Memory);
-    }
-    match Entries::read(alloc, purge.bytes, 1)? {
-        Some(entries) => series.write_all_entries(purge.tag, &entries),
-        None => Err(SeriesFault::Memory),
+fn stored_in<D: Dir + Drop>(alloc: Global, dir: D, purge: &Purge) -> Option<Stored<Global>> {
+    match opened(alloc, dir, purge.path) {
+        Some(mut series) => written(alloc, &mut series, purge.tag, purge.bytes),
+        None => None,
     }
 }
 
-// Purges the only chunk by this, and says why not.
-fn purged<R: Wait, D: Dir>(
+// Whether a purge of the only chunk by this is answered so. A chunk that stays is given back.
+fn purges<R: Wait, D: Dir>(
     rt: &R,
     shelf: &Shelf<D>,
     stored: Stored<Global>,
-) -> Result<Option<PurgeFault>, BufferFault> {
-    let Some(claim) = shelf.claim(rt)? else {
-        return Err(BufferFault::Gone);
+    fault: Option<PurgeFault>,
+) -> bool {
+    let Ok(Some(claim)) = shelf.claim(rt) else {
+        return false;
     };
     let evidence = Evidence::stored(&claim, stored);
     match shelf.purge(rt, claim, evidence) {
-        Ok(()) => Ok(None),
-        Err((fault, claim, evidence)) => {
+        Ok(()) => fault.is_none(),
+        Err((found, claim, evidence)) => {
             evidence.waste();
             shelf.give_back(rt, claim);
-            Ok(Some(fault))
+            fault == Some(found)
         }
     }
 }
 
-// Whether the purges are answered so, one after another, and the chunk is gone then.
-fn are_answered<R: Wait, D: Dir>(
+// Whether this purge is answered so, where the sink is in this folder.
+fn is_answered<R: Wait, D: Dir, E: Dir + Drop>(
+    alloc: Global,
+    rt: &R,
+    shelf: &Shelf<D>,
+    dir: E,
+    purge: &Purge,
+) -> bool {
+    match stored_in(alloc, dir, purge) {
+        Some(stored) => purges(rt, shelf, stored, purge.fault),
+        None => false,
+    }
+}
+
+// Whether the purges are answered so, one after another, by sinks in new folders of the kind `E`,
+// and the chunk is gone then.
+fn are_answered<R: Wait, D: Dir, E: Stopping>(
     alloc: Global,
     rt: &R,
     shelf: &Shelf<D>,
     purges: &[Purge],
-) -> Result<bool, Fail> {
+) -> bool {
     for purge in purges {
-        let stored = stored_in(alloc, MemoryDir::new(alloc), purge)?;
-        if purged(rt, shelf, stored)? != purge.fault {
-            return Ok(false);
+        if !is_answered(alloc, rt, shelf, E::made(alloc), purge) {
+            return false;
         }
     }
-    Ok(!is_live(rt, shelf, 0))
+    !is_live(rt, shelf, 0)
 }
 
 // The same of a buffer in this folder with one queued chunk.
-fn goes<R: Wait, D: Dir + Drop>(
+fn goes<R: Wait, D: Dir + Drop, E: Stopping>(
     alloc: Global,
     rt: &R,
     dir: D,
     purges: &[Purge],
-) -> Result<bool, Fail> {
-    let shelf = by_sink(alloc, dir)?;
-    queued(alloc, rt, &shelf)?;
-    are_answered(alloc, rt, &shelf, purges)
+) -> bool {
+    match by_sink(alloc, dir) {
+        Ok(shelf) => {
+            queued(alloc, rt, &shelf).is_ok() && are_answered::<R, D, E>(alloc, rt, &shelf, purges)
+        }
+        Err(_) => false,
+    }
 }
 
 // A chunk goes by its own entries in its output's sink alone.
@@ -137,11 +154,14 @@ static STRANGERS: [Purge; 4] = [
     },
 ];
 
+/// Whether a chunk goes so.
+pub fn goes_by_its_own<R: Wait, D: Stopping>(alloc: Global, rt: &R) -> bool {
+    goes::<R, D, D>(alloc, rt, D::made(alloc), &STRANGERS)
+}
+
 #[test]
-fn a_chunk_goes_by_its_own_entries(rt: HostRuntime) -> Result<(), Fail> {
-    let dir = MemoryDir::new(rt.alloc());
-    assert!(rt; goes(rt.alloc(), &rt, dir, &STRANGERS)?);
-    Ok(())
+fn a_chunk_goes_by_its_own_entries(rt: HostRuntime) {
+    assert!(rt; in_memory(&rt, rt.alloc(), Part::Shared(Shared::Own)));
 }
 
 // A chunk whose entries can't be read stays, and goes when they can.
@@ -160,17 +180,16 @@ static UNREAD: [Purge; 2] = [
     },
 ];
 
-// Whether a chunk of a buffer in this folder goes so, where the device fails the first call behind
-// the opening, the append and the queueing.
-fn goes_once_read<R: Wait, D: Dir + Drop>(alloc: Global, rt: &R, dir: D) -> Result<bool, Fail> {
-    goes(alloc, rt, Fuse::once(dir, 9), &UNREAD)
+/// Whether a chunk goes so on a device that fails the first call behind the opening, the append and
+/// the queueing.
+pub fn goes_once_read<R: Wait, D: Stopping>(alloc: Global, rt: &R) -> bool {
+    let device = D::made(alloc).on_device(Failing::At(9));
+    goes::<R, D::Device, D>(alloc, rt, device, &UNREAD)
 }
 
 #[test]
-fn a_chunk_that_cant_be_read_stays(rt: HostRuntime) -> Result<(), Fail> {
-    let dir = MemoryDir::new(rt.alloc());
-    assert!(rt; goes_once_read(rt.alloc(), &rt, dir)?);
-    Ok(())
+fn a_chunk_that_cant_be_read_stays(rt: HostRuntime) {
+    assert!(rt; in_memory(&rt, rt.alloc(), Part::Shared(Shared::Unread)));
 }
 
 // Whether the journal, which is short, is renewed.
@@ -178,26 +197,26 @@ fn renewed<R: Wait, D: Dir>(rt: &R, shelf: &Shelf<D>) -> bool {
     shelf.renew(rt).is_ok()
 }
 
-// Whether the only chunk of a buffer that drops stays over a renewal, and what two drops are
-// answered by.
-fn oldest<R: Wait, D: Dir + Drop>(
-    alloc: Global,
-    rt: &R,
-    dir: D,
-) -> Result<(bool, [Result<u64, BufferFault>; 2]), BufferFault> {
-    let shelf = shelf_in(alloc, dir, LEAF, WIDE)?;
-    queued(alloc, rt, &shelf)?;
-    let stays = renewed(rt, &shelf) && is_live(rt, &shelf, 0);
-    Ok((stays, [dropped(rt, &shelf), dropped(rt, &shelf)]))
+// Whether the only chunk stays over a renewal, and is dropped once.
+fn is_dropped_once<R: Wait, D: Dir>(rt: &R, shelf: &Shelf<D>) -> bool {
+    renewed(rt, shelf)
+        && is_live(rt, shelf, 0)
+        && dropped(rt, shelf) == Ok(0)
+        && dropped(rt, shelf) == Err(BufferFault::Gone)
+}
+
+/// The same of a buffer that drops.
+pub fn drops_once<R: Wait, D: Stopping>(alloc: Global, rt: &R) -> bool {
+    match shelf_in(alloc, D::made(alloc), LEAF, WIDE) {
+        Ok(shelf) => queued(alloc, rt, &shelf).is_ok() && is_dropped_once(rt, &shelf),
+        Err(_) => false,
+    }
 }
 
 // A buffer that drops lets its only chunk go once; renewing a short journal changes nothing.
 #[test]
-fn the_oldest_is_dropped_once(rt: HostRuntime) -> Result<(), Fail> {
-    let (stays, drops) = oldest(rt.alloc(), &rt, MemoryDir::new(rt.alloc()))?;
-    assert!(rt; stays);
-    assert_eq!(rt; drops, [Ok(0), Err(BufferFault::Gone)]);
-    Ok(())
+fn the_oldest_is_dropped_once(rt: HostRuntime) {
+    assert!(rt; in_memory(&rt, rt.alloc(), Part::Shared(Shared::Oldest)));
 }
 
 // What renewing a journal answers that is long, since the only chunk was dropped; `None` where this
@@ -207,35 +226,35 @@ fn renewed_long<R: Wait, D: Dir + Drop>(
     rt: &R,
     dir: D,
 ) -> Option<Result<(), BufferFault>> {
-    let shelf = eager_in(alloc, dir).ok()?;
-    queued(alloc, rt, &shelf).ok()?;
-    dropped(rt, &shelf).ok()?;
-    Some(shelf.renew(rt))
+    let Ok(shelf) = eager_in(alloc, dir) else {
+        return None;
+    };
+    if queued(alloc, rt, &shelf).is_ok() && dropped(rt, &shelf).is_ok() {
+        Some(shelf.renew(rt))
+    } else {
+        None
+    }
 }
 
-// The same in this folder, whose device fails after so many calls.
-fn renewed_long_after<R: Wait, D: Dir + Drop>(
-    alloc: Global,
-    rt: &R,
-    dir: D,
-    passes: u64,
-) -> Option<Result<(), BufferFault>> {
-    renewed_long(alloc, rt, Fuse::after(dir, passes))
+// Whether a failure of the folder is told.
+fn is_told<R: Wait, D: Stopping>(alloc: Global, rt: &R) -> bool {
+    let mut told = false;
+    for passes in 0..40u64 {
+        let device = D::made(alloc).on_device(Failing::Past(passes));
+        let answer = renewed_long(alloc, rt, device);
+        told |= answer == Some(Err(BufferFault::Fault));
+    }
+    told
+}
+
+/// The same, and whether the journal is renewed where nothing fails.
+pub fn is_renewed<R: Wait, D: Stopping>(alloc: Global, rt: &R) -> bool {
+    is_told::<R, D>(alloc, rt) && renewed_long(alloc, rt, D::made(alloc)) == Some(Ok(()))
 }
 
 // A journal that is long is written anew: where the folder fails every call from then on, that is
 // told.
 #[test]
-fn a_long_journal_is_renewed(rt: HostRuntime) -> Result<(), Fail> {
-    let alloc = rt.alloc();
-    let mut told = false;
-    for passes in 0..40u64 {
-        let dir = MemoryDir::new(alloc);
-        let answer = renewed_long_after(alloc, &rt, dir, passes);
-        told |= answer == Some(Err(BufferFault::Fault));
-    }
-    assert!(rt; told);
-    let whole = renewed_long(alloc, &rt, MemoryDir::new(alloc));
-    assert_eq!(rt; whole, Some(Ok(())));
-    Ok(())
+fn a_long_journal_is_renewed(rt: HostRuntime) {
+    assert!(rt; in_memory(&rt, rt.alloc(), Part::Shared(Shared::Renewal)));
 }

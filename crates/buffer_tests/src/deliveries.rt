@@ -1,16 +1,17 @@
 //! What becomes of receipts: deliveries take them, and stubs are what is left.
 
+use crate::devices::Stopping;
+use crate::parts::{Part, Shared, in_memory};
+use crate::script::WIDE;
 use crate::shelves::{
-    LEAF, Refused, Shelf, WIDE, audited, begun, begun_of, dropped, enqueue, message, put, shelf_in,
-    stored,
+    LEAF, Refused, Shelf, begun, begun_of, dropped, enqueue, finds, message, put, shelf_in, stored,
 };
 use ack_receipt::{BookFault, Delivery, Leaf, Numbers, Reserved, Stub};
 use buffer_state::Limits;
 use buffer_store::BufferFault;
-use disk_files::{Dir, MemoryDir};
+use disk_files::Dir;
 use std::alloc::Global;
 use std::sync::Wait;
-use std::test::Fail;
 
 const OTHER: Leaf = Leaf {
     relay: 1,
@@ -29,25 +30,34 @@ fn twice<R: Wait, D: Dir>(
     Ok((delivery.abandon(), refused))
 }
 
-// Why a second receipt of one buffer isn't taken, and what an audit by what is left of both finds.
-fn doubled<R: Wait, D: Dir + Drop>(
+// Whether the second isn't taken, and an audit by what is left of both finds nothing.
+fn is_refused<D: Dir + Drop>(
     alloc: Global,
-    rt: &R,
-    dir: D,
-) -> Result<(BookFault, Option<BookFault>), Fail> {
-    let shelf = shelf_in(alloc, dir, LEAF, WIDE)?;
-    let (stub, Some((fault, spent))) = twice(alloc, rt, &shelf)? else {
-        return Err(Fail::from("the second is taken"));
+    shelf: Shelf<D>,
+    stub: Stub<Global>,
+    refused: Option<Refused>,
+) -> bool {
+    match refused {
+        Some((BookFault::Double, spent)) => finds(alloc, shelf, &[stub, spent], None),
+        _ => false,
+    }
+}
+
+/// Whether it goes so.
+pub fn is_double<R: Wait, D: Stopping>(alloc: Global, rt: &R) -> bool {
+    let Ok(shelf) = shelf_in(alloc, D::made(alloc), LEAF, WIDE) else {
+        return false;
     };
-    Ok((fault, audited(alloc, shelf, &[stub, spent])?))
+    match twice(alloc, rt, &shelf) {
+        Ok((stub, refused)) => is_refused(alloc, shelf, stub, refused),
+        Err(_) => false,
+    }
 }
 
 // A second receipt of one buffer isn't taken, and what is left of both accounts for the book.
 #[test]
-fn a_second_receipt_is_double(rt: HostRuntime) -> Result<(), Fail> {
-    let doubled = doubled(rt.alloc(), &rt, MemoryDir::new(rt.alloc()))?;
-    assert_eq!(rt; doubled, (BookFault::Double, None));
-    Ok(())
+fn a_second_receipt_is_double(rt: HostRuntime) {
+    assert!(rt; in_memory(&rt, rt.alloc(), Part::Shared(Shared::Double)));
 }
 
 // What is left of a receipt that another delivery doesn't take, and why not.
@@ -93,24 +103,21 @@ fn crossed<R: Wait, D: Dir>(
     }
 }
 
-// Why a delivery doesn't take the receipt of another, and what an audit by what is left of that
-// finds.
-fn strange<R: Wait, D: Dir + Drop>(
-    alloc: Global,
-    rt: &R,
-    dir: D,
-) -> Result<(Option<BookFault>, Option<BookFault>), Fail> {
-    let shelf = shelf_in(alloc, dir, LEAF, WIDE)?;
-    let (fault, stub) = crossed(alloc, rt, &shelf)?;
-    Ok((fault, audited(alloc, shelf, &[stub])?))
+/// Whether it goes so: the receipt isn't taken, and an audit by what is left of it finds nothing.
+pub fn is_strange<R: Wait, D: Stopping>(alloc: Global, rt: &R) -> bool {
+    let Ok(shelf) = shelf_in(alloc, D::made(alloc), LEAF, WIDE) else {
+        return false;
+    };
+    match crossed(alloc, rt, &shelf) {
+        Ok((Some(BookFault::Stranger), stub)) => finds(alloc, shelf, &[stub], None),
+        _ => false,
+    }
 }
 
 // A delivery doesn't take the receipt of another, which is spent.
 #[test]
-fn a_receipt_of_another_is_strange(rt: HostRuntime) -> Result<(), Fail> {
-    let strange = strange(rt.alloc(), &rt, MemoryDir::new(rt.alloc()))?;
-    assert_eq!(rt; strange, (Some(BookFault::Stranger), None));
-    Ok(())
+fn a_receipt_of_another_is_strange(rt: HostRuntime) {
+    assert!(rt; in_memory(&rt, rt.alloc(), Part::Shared(Shared::Strange)));
 }
 
 // Appends a message to both buffers, and answers it where both have it: whether it was answered,
@@ -121,7 +128,7 @@ fn copied<R: Wait, D: Dir>(
     wide: &Shelf<D>,
     small: &Shelf<D>,
     numbers: &mut Numbers,
-) -> Result<(bool, Stub<Global>), Fail> {
+) -> Result<(bool, Stub<Global>), BufferFault> {
     let message = message(alloc)?;
     let mut reserved = Reserved::for_message(alloc, &message)?;
     let delivery = begun_of(alloc, numbers, message, &[LEAF, OTHER])?;
@@ -138,53 +145,66 @@ fn settled<R: Wait, D: Dir>(rt: &R, shelf: &Shelf<D>, stub: &Stub<Global>) -> Op
     shelf.settle(rt, stub).err()
 }
 
-// What settling answers to a stub of a further book, and twice to one of its own; then what audits
-// of both books find.
-fn settled_twice<R: Wait, D: Dir + Drop>(
+// Whether settling refuses a stub of a further book, and takes one of its own once.
+fn is_settled_once<R: Wait, D: Dir>(
+    rt: &R,
+    shelf: &Shelf<D>,
+    stranger: &Stub<Global>,
+    own: &Stub<Global>,
+) -> bool {
+    settled(rt, shelf, stranger) == Some(BookFault::Stranger)
+        && settled(rt, shelf, own).is_none()
+        && settled(rt, shelf, own) == Some(BookFault::Double)
+}
+
+// What is left of the second of two deliveries to the longer book.
+fn second_of<R: Wait, D: Dir>(
+    alloc: Global,
+    rt: &R,
+    longer: &Shelf<D>,
+    numbers: &mut Numbers,
+) -> Result<Stub<Global>, BufferFault> {
+    let _ = stored(alloc, rt, longer, numbers)?;
+    stored(alloc, rt, longer, numbers)
+}
+
+// The same where what is left of one delivery to this book is its own, and whether audits of both
+// books find that nothing is open, and that a line is.
+fn are_settled<R: Wait, D: Dir + Drop>(
     alloc: Global,
     rt: &R,
     shelf: Shelf<D>,
     longer: Shelf<D>,
-) -> Result<([Option<BookFault>; 3], [Option<BookFault>; 2]), Fail> {
+) -> bool {
     let mut numbers = Numbers::new();
-    let one = stored(alloc, rt, &shelf, &mut numbers)?;
-    let _ = stored(alloc, rt, &longer, &mut numbers)?;
-    let stranger = stored(alloc, rt, &longer, &mut numbers)?;
-    let answers = [
-        settled(rt, &shelf, &stranger),
-        settled(rt, &shelf, &one),
-        settled(rt, &shelf, &one),
-    ];
-    let audits = [
-        audited(alloc, shelf, &[])?,
-        audited(alloc, longer, &[stranger])?,
-    ];
-    Ok((answers, audits))
+    let own = stored(alloc, rt, &shelf, &mut numbers);
+    let stranger = second_of(alloc, rt, &longer, &mut numbers);
+    match (own, stranger) {
+        (Ok(own), Ok(stranger)) => {
+            let is_once = is_settled_once(rt, &shelf, &stranger, &own);
+            let is_whole = finds(alloc, shelf, &[], None);
+            let is_open = finds(alloc, longer, &[stranger], Some(BookFault::Missing));
+            is_once && is_whole && is_open
+        }
+        _ => false,
+    }
 }
 
-// The same of books of buffers in two folders.
-fn settled_in<R: Wait, D: Dir + Drop>(
-    alloc: Global,
-    rt: &R,
-    dir: D,
-    other: D,
-) -> Result<([Option<BookFault>; 3], [Option<BookFault>; 2]), Fail> {
-    let shelf = shelf_in(alloc, dir, LEAF, WIDE)?;
-    let longer = shelf_in(alloc, other, LEAF, WIDE)?;
-    settled_twice(alloc, rt, shelf, longer)
+/// The same of books of buffers in two new folders.
+pub fn stubs_are_settled<R: Wait, D: Stopping>(alloc: Global, rt: &R) -> bool {
+    match (
+        shelf_in(alloc, D::made(alloc), LEAF, WIDE),
+        shelf_in(alloc, D::made(alloc), LEAF, WIDE),
+    ) {
+        (Ok(shelf), Ok(longer)) => are_settled(alloc, rt, shelf, longer),
+        _ => false,
+    }
 }
 
 // A stub closes its lines once; a stub of a further book closes none.
 #[test]
-fn stubs_are_settled_once(rt: HostRuntime) -> Result<(), Fail> {
-    let alloc = rt.alloc();
-    let (answers, audits) = settled_in(alloc, &rt, MemoryDir::new(alloc), MemoryDir::new(alloc))?;
-    assert_eq!(rt;
-        answers,
-        [Some(BookFault::Stranger), None, Some(BookFault::Double)]
-    );
-    assert_eq!(rt; audits, [None, Some(BookFault::Missing)]);
-    Ok(())
+fn stubs_are_settled_once(rt: HostRuntime) {
+    assert!(rt; in_memory(&rt, rt.alloc(), Part::Shared(Shared::Settled)));
 }
 
 // Room for one message beside another of the second buffer.
@@ -193,58 +213,100 @@ const SMALL: Limits = Limits {
     total: 5,
 };
 
-// What becomes of a message while there is no room for its copy, and once there is again: whether
-// it was answered, and what is left of the delivery that takes the room, and of both.
+// What is left of a delivery that takes the room.
+fn filled<R: Wait, D: Dir>(
+    alloc: Global,
+    rt: &R,
+    small: &Shelf<D>,
+    numbers: &mut Numbers,
+) -> Option<Stub<Global>> {
+    let stub = stored(alloc, rt, small, numbers);
+    match (enqueue(rt, small, 0), stub) {
+        (Ok(()), Ok(stub)) => Some(stub),
+        _ => None,
+    }
+}
+
+// What is left of a message that both buffers are sent, if it is answered or not as this says.
+fn copied_so<R: Wait, D: Dir>(
+    alloc: Global,
+    rt: &R,
+    wide: &Shelf<D>,
+    small: &Shelf<D>,
+    numbers: &mut Numbers,
+    answered: bool,
+) -> Option<Stub<Global>> {
+    match copied(alloc, rt, wide, small, numbers) {
+        Ok((is_answered, stub)) => {
+            if is_answered == answered {
+                Some(stub)
+            } else {
+                None
+            }
+        }
+        Err(_) => None,
+    }
+}
+
+// The same of a message that is answered behind the drop of the oldest chunk.
+fn copied_behind_a_drop<R: Wait, D: Dir>(
+    alloc: Global,
+    rt: &R,
+    wide: &Shelf<D>,
+    small: &Shelf<D>,
+    numbers: &mut Numbers,
+) -> Option<Stub<Global>> {
+    if dropped(rt, small) == Ok(0) {
+        copied_so(alloc, rt, wide, small, numbers, true)
+    } else {
+        None
+    }
+}
+
+// What is left of a delivery that takes the room, of a message that isn't answered then, and of one
+// that is, once there is room again.
 fn copied_twice<R: Wait, D: Dir>(
     alloc: Global,
     rt: &R,
     wide: &Shelf<D>,
     small: &Shelf<D>,
-) -> Result<([bool; 2], [Stub<Global>; 3]), Fail> {
+) -> Option<[Stub<Global>; 3]> {
     let mut numbers = Numbers::new();
-    let before = stored(alloc, rt, small, &mut numbers)?;
-    enqueue(rt, small, 0)?;
-    let (early, first) = copied(alloc, rt, wide, small, &mut numbers)?;
-    if dropped(rt, small) != Ok(0) {
-        return Err(Fail::from("nothing is dropped"));
+    let before = filled(alloc, rt, small, &mut numbers);
+    let first = copied_so(alloc, rt, wide, small, &mut numbers, false);
+    let second = copied_behind_a_drop(alloc, rt, wide, small, &mut numbers);
+    match (before, first, second) {
+        (Some(before), Some(first), Some(second)) => Some([before, first, second]),
+        _ => None,
     }
-    let (late, second) = copied(alloc, rt, wide, small, &mut numbers)?;
-    Ok(([early, late], [before, first, second]))
 }
 
-// The same, and what audits of the small buffer and of the wide one find.
-fn waited<R: Wait, D: Dir + Drop>(
-    alloc: Global,
-    rt: &R,
-    wide: Shelf<D>,
-    small: Shelf<D>,
-) -> Result<([bool; 2], [Option<BookFault>; 2]), Fail> {
-    let (answered, stubs) = copied_twice(alloc, rt, &wide, &small)?;
-    let audits = [
-        audited(alloc, small, &stubs)?,
-        audited(alloc, wide, &stubs[..2])?,
-    ];
-    Ok((answered, audits))
+// Whether it goes so, and audits find that the small buffer's book is accounted for, and that a
+// line of the wide one's isn't.
+fn waits<R: Wait, D: Dir + Drop>(alloc: Global, rt: &R, wide: Shelf<D>, small: Shelf<D>) -> bool {
+    match copied_twice(alloc, rt, &wide, &small) {
+        Some(stubs) => {
+            let is_whole = finds(alloc, small, &stubs, None);
+            let is_open = finds(alloc, wide, &stubs[..2], Some(BookFault::Missing));
+            is_whole && is_open
+        }
+        None => false,
+    }
 }
 
-// The same of buffers in two folders, the small one in the second.
-fn waited_in<R: Wait, D: Dir + Drop>(
-    alloc: Global,
-    rt: &R,
-    dir: D,
-    other: D,
-) -> Result<([bool; 2], [Option<BookFault>; 2]), Fail> {
-    let wide = shelf_in(alloc, dir, LEAF, WIDE)?;
-    let small = shelf_in(alloc, other, OTHER, SMALL)?;
-    waited(alloc, rt, wide, small)
+/// The same of buffers in two new folders.
+pub fn copy_waits<R: Wait, D: Stopping>(alloc: Global, rt: &R) -> bool {
+    match (
+        shelf_in(alloc, D::made(alloc), LEAF, WIDE),
+        shelf_in(alloc, D::made(alloc), OTHER, SMALL),
+    ) {
+        (Ok(wide), Ok(small)) => waits(alloc, rt, wide, small),
+        _ => false,
+    }
 }
 
 // A message that one of two buffers refuses isn't answered; it is, once there is room again.
 #[test]
-fn a_copy_waits_for_room(rt: HostRuntime) -> Result<(), Fail> {
-    let alloc = rt.alloc();
-    let (answered, audits) = waited_in(alloc, &rt, MemoryDir::new(alloc), MemoryDir::new(alloc))?;
-    assert_eq!(rt; answered, [false, true]);
-    assert_eq!(rt; audits, [None, Some(BookFault::Missing)]);
-    Ok(())
+fn a_copy_waits_for_room(rt: HostRuntime) {
+    assert!(rt; in_memory(&rt, rt.alloc(), Part::Shared(Shared::Copy)));
 }

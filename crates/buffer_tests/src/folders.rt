@@ -1,59 +1,77 @@
-//! Folders: what a stop leaves, what a fuse fails, and folders of the system.
+//! Folders: what a stop leaves, what a device fails, and folders of the system.
 
-use disk_files::{Dir, DirError, EitherDir, FileNo, Fuse, Keep, MemoryDir, RealDir, Writing};
+use crate::devices::{Failing, Stopping};
+use crate::parts::{Part, in_memory};
+use crate::real::{Real, are_real, on_disk};
+use disk_files::{Dir, DirError, FileName, FileNo, Keep, Writing};
+use numbered_files::read_file;
 use std::alloc::Global;
-use std::fs;
-use std::rt::Files;
-use std::test::Fail;
 
-// A new file of this name gets four bytes; `reserve` doesn't touch the device.
+// A new file of this name gets two bytes.
 fn write_new<D: Dir>(dir: &mut D, name: &[u8]) -> Result<(), DirError> {
     let file = dir.create(name, 2)?;
-    dir.append(file, b"ab", Writing::Through)?;
-    dir.reserve(file, 2)?;
-    dir.append(file, b"cd", Writing::Through)?;
-    dir.sync(file)
+    dir.append(file, b"ab", Writing::Through)
 }
 
-fn is_listed<D: Dir>(alloc: Global, dir: &mut D, name: &[u8]) -> Result<bool, DirError> {
-    let names = dir.list(alloc)?;
-    Ok(names.iter().any(|n| n.as_bytes() == name))
+// Whether one of these is this name.
+fn has_name(names: &[FileName<Global>], name: &[u8]) -> bool {
+    for other in names {
+        if other.as_bytes() == name {
+            return true;
+        }
+    }
+    false
 }
 
-// Removes the file, and says whether it read as it was written.
-fn read_and_remove<D: Dir>(dir: &mut D, name: &[u8]) -> Result<bool, DirError> {
+// Whether the folder lists this name.
+fn is_listed<D: Dir>(alloc: Global, dir: &mut D, name: &[u8]) -> bool {
+    match dir.list(alloc) {
+        Ok(names) => has_name(&names, name),
+        Err(_) => false,
+    }
+}
+
+// Whether the file has four bytes, which read as they were written.
+fn reads_back<D: Dir>(dir: &mut D, name: &[u8]) -> Result<bool, DirError> {
     let file = dir.open(name)?;
     let length = dir.length(file)?;
     let mut into = [9u8; 4];
     let read = dir.read_at(file, 1, &mut into)?;
-    dir.remove(file)?;
     Ok(length == 4 && read == 3 && into == [98, 99, 100, 9])
 }
 
-// Each call that touches the device, once, and the append twice, on a file of this name.
-fn each_call<D: Dir>(alloc: Global, dir: &mut D, name: &[u8]) -> Result<(), DirError> {
-    write_new(dir, name)?;
-    if is_listed(alloc, dir, name)? && read_and_remove(dir, name)? {
-        Ok(())
-    } else {
-        Err(DirError::NoSuchFile)
-    }
+// Whether each call that touches the device goes well, once, the append twice, and the opening
+// wherever a file is to be open, on a file of this name.
+fn takes_each_call<D: Dir>(alloc: Global, dir: &mut D, name: &[u8]) -> bool {
+    write_new(dir, name).is_ok()
+        && append(dir, name, b"cd", Writing::Through).is_ok()
+        && sync(dir, name).is_ok()
+        && is_listed(alloc, dir, name)
+        && reads_back(dir, name) == Ok(true)
+        && remove(dir, name).is_ok()
 }
 
-const CALLS: u64 = 9;
+const CALLS: u64 = 12;
 
-// The bytes of a file, if it reads.
-fn bytes_of<D: Dir>(alloc: Global, dir: &mut D, name: &[u8]) -> Result<Option<Vec<u8>>, DirError> {
-    let file = match dir.open(name) {
-        Ok(file) => file,
-        Err(DirError::NoSuchFile) => return Ok(None),
-        Err(error) => return Err(error),
-    };
-    let len = dir.length(file)?;
-    let mut bytes = vec![in alloc; 0u8; len]?;
-    let n = dir.read_at(file, 0, &mut bytes)?;
-    bytes.truncate(n);
-    Ok(Some(bytes))
+/// Adds a file of this name and these bytes.
+pub fn put_file<D: Dir>(dir: &mut D, name: &[u8], bytes: &[u8]) -> Result<(), DirError> {
+    let file = dir.create(name, bytes.len())?;
+    dir.append(file, bytes, Writing::Through)?;
+    dir.sync(file)
+}
+
+/// The bytes of the file of this name.
+pub fn bytes_of<D: Dir>(alloc: Global, dir: &mut D, name: &[u8]) -> Result<Vec<u8>, DirError> {
+    let file = dir.open(name)?;
+    read_file(alloc, dir, file)
+}
+
+/// Whether the file of this name has these bytes.
+pub fn reads_as<D: Dir>(alloc: Global, dir: &mut D, name: &[u8], want: &[u8]) -> bool {
+    match bytes_of(alloc, dir, name) {
+        Ok(bytes) => bytes.as_slice() == want,
+        Err(_) => false,
+    }
 }
 
 // What is done to a file of some name.
@@ -79,7 +97,8 @@ fn open<D: Dir>(dir: &mut D, name: &[u8]) -> Option<DirError> {
     dir.open(name).err()
 }
 
-fn append<D: Dir>(
+/// Adds these bytes to the file of this name.
+pub fn append<D: Dir>(
     dir: &mut D,
     name: &[u8],
     bytes: &[u8],
@@ -150,59 +169,37 @@ static FILLED: [Row; 17] = [
     (b"last", Act::Close, None),
 ];
 
-fn fill<D: Dir>(dir: &mut D) -> Result<(), DirError> {
-    if answers(dir, &FILLED) {
-        Ok(())
-    } else {
-        Err(DirError::Fault)
+// Whether the file of this name has these bytes, or there is none.
+fn has_file<D: Dir>(alloc: Global, dir: &mut D, name: &[u8], want: Option<&[u8]>) -> bool {
+    match want {
+        Some(bytes) => reads_as(alloc, dir, name, bytes),
+        None => open(dir, name) == Some(DirError::NoSuchFile),
     }
 }
 
-fn filled<D: Dir + Drop>(dir: D) -> Result<D, DirError> {
-    let mut dir = dir;
-    fill(&mut dir)?;
-    Ok(dir)
-}
-
-fn reads_as<D: Dir>(
-    alloc: Global,
-    dir: &mut D,
-    name: &[u8],
-    want: Option<&[u8]>,
-) -> Result<bool, DirError> {
-    Ok(match (bytes_of(alloc, dir, name)?, want) {
-        (None, None) => true,
-        (Some(bytes), Some(want)) => bytes.as_slice() == want,
-        _ => false,
-    })
-}
-
 // What is left of `kept`, `young` and `last`; nothing is left of `gone`.
-#[derive(Clone, Copy)]
 struct Left {
     kept: &'static [u8],
     young: Option<&'static [u8]>,
     last: &'static [u8],
 }
 
-fn has<D: Dir + Drop>(alloc: Global, dir: D, left: &Left) -> Result<bool, DirError> {
+// Whether that is left in this folder.
+fn has<D: Dir + Drop>(alloc: Global, dir: D, left: &Left) -> bool {
     let mut dir = dir;
-    has_in(alloc, &mut dir, left)
+    has_file(alloc, &mut dir, b"kept", Some(left.kept))
+        && has_file(alloc, &mut dir, b"young", left.young)
+        && has_file(alloc, &mut dir, b"gone", None)
+        && has_file(alloc, &mut dir, b"last", Some(left.last))
 }
 
-fn has_in<D: Dir>(alloc: Global, dir: &mut D, left: &Left) -> Result<bool, DirError> {
-    Ok(
-        reads_as(alloc, dir, b"kept", Some(left.kept))?
-            && reads_as(alloc, dir, b"young", left.young)?
-            && reads_as(alloc, dir, b"gone", None)?
-            && reads_as(alloc, dir, b"last", Some(left.last))?,
-    )
-}
-
-// Whether a stop leaves that. It counts as synced, so a second stop loses nothing.
-fn leaves(alloc: Global, keep: Keep, left: &Left) -> Result<bool, DirError> {
-    let dir = filled(MemoryDir::new(alloc))?;
-    has(alloc, dir.stop(keep).stop(Keep::Least), left)
+// Whether a stop of this folder, which is filled before, leaves that. It counts as synced, so a
+// second stop loses nothing.
+fn leaves<D: Stopping>(alloc: Global, dir: D, keep: Keep, left: &Left) -> bool {
+    let mut dir = dir;
+    let is_filled = answers(&mut dir, &FILLED);
+    let is_left = has(alloc, dir.stopped(keep).stopped(Keep::Least), left);
+    is_filled && is_left
 }
 
 // How much a stop keeps, and what it leaves. All but what was written to `last` is there, or what
@@ -258,56 +255,64 @@ static STOPS: [(Keep, Left); 6] = [
     ),
 ];
 
-#[test]
-fn what_a_stop_leaves(rt: HostRuntime) -> Result<(), DirError> {
+/// Whether each stop leaves what it says.
+pub fn are_left<D: Stopping>(alloc: Global) -> bool {
     for (keep, left) in &STOPS {
-        assert!(rt; leaves(rt.alloc(), *keep, left)?);
+        if !leaves(alloc, D::made(alloc), *keep, left) {
+            return false;
+        }
     }
-    Ok(())
+    true
 }
 
-// Whether these calls fail, once and again, and how often the folder failed before the second turn.
+#[test]
+fn what_a_stop_leaves(rt: HostRuntime) {
+    assert!(rt; in_memory(&rt, rt.alloc(), Part::Stops));
+}
+
+// Whether these calls fail, once and again, and in a third turn.
 fn turns<D: Dir>(alloc: Global, dir: &mut D) -> [bool; 3] {
-    let first = each_call(alloc, dir, b"a").is_err();
-    let second = each_call(alloc, dir, b"b").is_err();
-    [first, second, each_call(alloc, dir, b"c").is_err()]
+    let first = !takes_each_call(alloc, dir, b"a");
+    let second = !takes_each_call(alloc, dir, b"b");
+    [first, second, !takes_each_call(alloc, dir, b"c")]
 }
 
-// A fuse that fails from a call on; what it holds doesn't.
-fn fails_after<D: Dir + Drop>(alloc: Global, dir: D, passes: u64) -> bool {
-    let mut fuse = Fuse::after(dir, passes);
-    let failed = turns(alloc, &mut fuse);
-    failed == [passes < CALLS, true, true] && is_sound(alloc, fuse.into_inner())
+// Whether a device fails from a call on; the folder on it doesn't.
+fn fails_past<D: Stopping>(alloc: Global, passes: u64) -> bool {
+    let mut device = D::made(alloc).on_device(Failing::Past(passes));
+    let failed = turns(alloc, &mut device);
+    let is_sound = is_sound(alloc, D::off_device(device));
+    failed == [passes < CALLS, true, true] && is_sound
 }
 
 fn is_sound<D: Dir + Drop>(alloc: Global, dir: D) -> bool {
     let mut dir = dir;
-    each_call(alloc, &mut dir, b"d").is_ok()
+    takes_each_call(alloc, &mut dir, b"d")
 }
 
-// A fuse that fails one call.
-fn fails_once<D: Dir + Drop>(alloc: Global, dir: D, passes: u64) -> bool {
-    let mut fuse = Fuse::once(dir, passes);
-    turns(alloc, &mut fuse) == [passes < CALLS, passes >= CALLS, false] && faults_of(&fuse) == 1
+// Whether a device fails one call.
+fn fails_at<D: Stopping>(alloc: Global, passes: u64) -> bool {
+    let mut device = D::made(alloc).on_device(Failing::At(passes));
+    turns(alloc, &mut device) == [passes < CALLS, passes >= CALLS, false] && faults_of(&device) == 1
 }
 
 fn faults_of<D: Dir>(dir: &D) -> u64 {
     dir.faults()
 }
 
+/// Whether devices fail so behind each number of calls.
+pub fn are_devices<D: Stopping>(alloc: Global) -> bool {
+    for passes in 0..=CALLS {
+        if !fails_past::<D>(alloc, passes) || !fails_at::<D>(alloc, passes) {
+            return false;
+        }
+    }
+    true
+}
+
 #[test]
 fn fuse_fails_one_call_or_all_later_ones(rt: HostRuntime) {
-    let alloc = rt.alloc();
-    for passes in 0..=CALLS {
-        assert!(rt;
-            fails_after(alloc, MemoryDir::new(alloc), passes),
-            "{passes}"
-        );
-        assert!(rt;
-            fails_once(alloc, MemoryDir::new(alloc), passes),
-            "{passes}"
-        );
-    }
+    assert!(rt; in_memory(&rt, rt.alloc(), Part::Devices));
 }
 
 // Names are taken for good, and each refusal is counted.
@@ -325,36 +330,32 @@ fn listed<D: Dir>(alloc: Global, dir: &mut D) -> Result<usize, DirError> {
     Ok(dir.list(alloc)?.len())
 }
 
-// How many files a folder has, whether names are taken in it, and how often it refused; then the
-// folder. It may be kept under a lock that threads share.
-fn taken_in<D: Dir + Drop + Send>(
-    alloc: Global,
-    dir: D,
-) -> Result<((usize, bool, u64), D), DirError> {
-    let mut dir = dir;
-    let count = listed(alloc, &mut dir)?;
-    let are_taken = answers(&mut dir, &TAKEN);
-    Ok(((count, are_taken, faults_of(&dir)), dir))
+// Whether a folder that is filled has three files, its names are taken, and it counts its refusals.
+// It may be kept under a lock that threads share.
+fn are_taken<D: Dir + Send>(alloc: Global, dir: &mut D) -> bool {
+    answers(dir, &FILLED)
+        && listed(alloc, dir) == Ok(3)
+        && answers(dir, &TAKEN)
+        && faults_of(dir) == 4
 }
 
+// Whether the name of a removed file is free.
 fn are_free<D: Dir + Drop>(dir: D) -> bool {
     let mut dir = dir;
     answers(&mut dir, &FREE)
 }
 
-#[test]
-fn names_of_files(rt: HostRuntime) -> Result<(), DirError> {
-    let alloc = rt.alloc();
-    let (taken, dir) = taken_in(alloc, filled(MemoryDir::new(alloc))?)?;
-    let are_free = are_free(dir.stop(Keep::Greatest));
-    assert_eq!(rt; taken, (3, true, 4));
-    assert!(rt; are_free);
-    Ok(())
+/// Whether names are taken in a folder, and free after a stop.
+pub fn are_taken_until_a_stop<D: Stopping>(alloc: Global) -> bool {
+    let mut dir = D::made(alloc);
+    let are_taken = are_taken(alloc, &mut dir);
+    let are_free = are_free(dir.stopped(Keep::Greatest));
+    are_taken && are_free
 }
 
-// No folder of this path.
-fn no_folder<R: Files + Alloc>(rt: &R, path: &str) {
-    let _ = fs::remove_dir_all(rt, path);
+#[test]
+fn names_of_files(rt: HostRuntime) {
+    assert!(rt; in_memory(&rt, rt.alloc(), Part::Names));
 }
 
 // A folder of the system gets one file more, and counts what it refuses. What was held back is in
@@ -381,68 +382,34 @@ static REAL: [Row; 18] = [
     (b"\xff", Act::Open, Some(DirError::Fault)),
 ];
 
-fn real_refusals<D: Dir + Drop>(alloc: Global, dir: D) -> Result<bool, DirError> {
+/// Whether this folder, which is empty, takes each call and answers so.
+pub fn is_real<D: Dir + Drop>(alloc: Global, dir: D) -> bool {
     let mut dir = dir;
-    each_call(alloc, &mut dir, b"a.journal")?;
-    Ok(answers(&mut dir, &REAL) && faults_of(&dir) == 4)
+    takes_each_call(alloc, &mut dir, b"a.journal")
+        && answers(&mut dir, &REAL)
+        && faults_of(&dir) == 4
 }
 
-// A folder has one file of this name and these bytes, and nothing else.
-fn has_one<D: Dir + Drop>(
-    alloc: Global,
-    dir: D,
-    name: &[u8],
-    bytes: &[u8],
-) -> Result<bool, DirError> {
+/// Whether a folder has one file of this name and these bytes, and nothing else.
+pub fn has_one<D: Dir + Drop>(alloc: Global, dir: D, name: &[u8], bytes: &[u8]) -> bool {
     let mut dir = dir;
-    Ok(
-        listed(alloc, &mut dir)? == 1
-            && is_listed(alloc, &mut dir, name)?
-            && reads_as(alloc, &mut dir, name, Some(bytes))?,
-    )
+    listed(alloc, &mut dir) == Ok(1)
+        && is_listed(alloc, &mut dir, name)
+        && reads_as(alloc, &mut dir, name, bytes)
 }
 
 // A folder that isn't there fails, and says so.
 static MISSING: [Row; 1] = [(b"a", Act::Create, Some(DirError::Fault))];
 
-fn is_missing<D: Dir + Drop>(alloc: Global, dir: D) -> bool {
+/// Whether this folder does.
+pub fn is_missing<D: Dir + Drop>(alloc: Global, dir: D) -> bool {
     let mut dir = dir;
     answers(&mut dir, &MISSING) && listed(alloc, &mut dir).is_err() && faults_of(&dir) == 2
 }
 
-// The folder of the system with this path, which is made.
-pub fn made(rt: HostRuntime, path: &str) -> Result<RealDir<HostRuntime, Global>, Fail> {
-    let alloc = rt.alloc();
-    match RealDir::make(rt, alloc, path) {
-        Ok(dir) => Ok(dir),
-        Err((error, _)) => Err(Fail::from(error)),
-    }
-}
-
-// A folder that can't be made there; what it was to have comes back.
-fn refused(rt: HostRuntime, path: &str) -> Result<HostRuntime, Fail> {
-    let alloc = rt.alloc();
-    match RealDir::make(rt, alloc, path) {
-        Err((DirError::Fault, theirs)) => Ok(theirs),
-        _ => Err(Fail::from("a folder that can't be made")),
-    }
-}
-
 #[test]
-fn real_files(rt: HostRuntime) -> Result<(), Fail> {
-    let alloc = rt.alloc();
-    no_folder(&rt, "disk_files_test");
-    let none = RealDir::new(rt.clone()?, alloc, "disk_files_test/made")?;
-    assert!(rt; is_missing(alloc, none));
-    let dir = made(rt.clone()?, "disk_files_test/made")?;
-    assert!(rt; real_refusals(alloc, dir)?);
-    // A value made anew finds the file as it was written, also one that has what came back of a
-    // refusal.
-    let theirs = refused(rt.clone()?, "disk_files_test/made/b.sink/x")?;
-    let anew = made(theirs, "disk_files_test/made")?;
-    assert!(rt; has_one(alloc, anew, b"b.sink", b"hello, you")?);
-    fs::remove_dir_all(&rt, "disk_files_test")?;
-    Ok(())
+fn real_files(rt: HostRuntime) {
+    assert!(rt; are_real(&rt));
 }
 
 // Makes a file and removes it, and says where it stood.
@@ -463,9 +430,9 @@ fn open_and_close<D: Dir>(dir: &mut D) -> Result<FileNo, DirError> {
     Ok(file)
 }
 
-// Two thousand of the ones stand at the same place, and then as many of the others: more than a
-// process may have open.
-fn stay_in_place<D: Dir + Drop>(dir: D) -> bool {
+/// Whether two thousand of the ones stand at the same place, and then as many of the others: more
+/// than a process may have open.
+pub fn stay_in_place<D: Dir + Drop>(dir: D) -> bool {
     let mut dir = dir;
     for _ in 0..2000u32 {
         if come_and_go(&mut dir) != Ok(FileNo(0)) {
@@ -481,41 +448,19 @@ fn stay_in_place<D: Dir + Drop>(dir: D) -> bool {
 }
 
 #[test]
-fn files_that_are_gone_leave_their_places(rt: HostRuntime) -> Result<(), Fail> {
-    let alloc = rt.alloc();
-    no_folder(&rt, "disk_places_test");
-    let dir = made(rt.clone()?, "disk_places_test")?;
-    assert!(rt; stay_in_place(dir));
-    fs::remove_dir_all(&rt, "disk_places_test")?;
-    Ok(())
+fn files_that_are_gone_leave_their_places(rt: HostRuntime) {
+    assert!(rt; on_disk(&rt, "disk_places_test", Real::Places));
 }
 
-// Whether each call goes well, and a name is free again then, in the one, and not before a stop, in
-// the other.
-fn serves<D: Dir + Drop + Send>(alloc: Global, dir: D, is_free: bool) -> bool {
+/// Whether each call goes well, and the name of a removed file is free then, or not.
+pub fn serves<D: Dir + Drop + Send>(alloc: Global, dir: D, is_free: bool) -> bool {
     let mut dir = dir;
-    each_call(alloc, &mut dir, b"a") == Ok(())
+    takes_each_call(alloc, &mut dir, b"a")
         && create(&mut dir, b"a").is_none() == is_free
         && faults_of(&dir) == u64::from(!is_free)
 }
 
-// The same of a relay's folders: one of the system, and one in memory.
-fn both_serve<L: Dir + Drop + Send, R: Dir + Drop + Send>(
-    alloc: Global,
-    left: L,
-    right: R,
-) -> bool {
-    let on_disk: EitherDir<L, R> = EitherDir::Left(left);
-    let in_memory: EitherDir<L, R> = EitherDir::Right(right);
-    serves(alloc, on_disk, true) && serves(alloc, in_memory, false)
-}
-
 #[test]
-fn either_kind_of_folder(rt: HostRuntime) -> Result<(), Fail> {
-    let alloc = rt.alloc();
-    no_folder(&rt, "disk_either_test");
-    let real = made(rt.clone()?, "disk_either_test")?;
-    assert!(rt; both_serve(alloc, real, MemoryDir::new(alloc)));
-    fs::remove_dir_all(&rt, "disk_either_test")?;
-    Ok(())
+fn either_kind_of_folder(rt: HostRuntime) {
+    assert!(rt; on_disk(&rt, "disk_either_test", Real::Either));
 }

@@ -11,13 +11,19 @@ mod claims;
 #[cfg(test)]
 mod deliveries;
 #[cfg(test)]
+mod devices;
+#[cfg(test)]
 mod folders;
 #[cfg(test)]
 mod numbering;
 #[cfg(test)]
 mod outlines;
 #[cfg(test)]
+mod parts;
+#[cfg(test)]
 mod pendings;
+#[cfg(test)]
+mod real;
 #[cfg(test)]
 mod records;
 #[cfg(test)]

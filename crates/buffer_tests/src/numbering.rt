@@ -1,6 +1,9 @@
 //! Numbered files in folders.
 
-use disk_files::{Dir, DirError, Fuse, MemoryDir, Writing};
+use crate::devices::{Failing, Stopping};
+use crate::folders::{append, put_file, reads_as};
+use crate::parts::{Part, in_memory};
+use disk_files::{Dir, DirError, Writing};
 use numbered_files::{Family, names_differ, numbers, read_file};
 use std::alloc::{AllocError, Global};
 
@@ -18,21 +21,31 @@ static NAMES: [(u32, &[u8]); 3] = [
     (4_294_967_295, b"buf.4294967295.sink"),
 ];
 
-fn name_of(alloc: Global, number: u32) -> Result<Vec<u8>, AllocError> {
-    sinks().name(alloc, number)
+// Whether the file of this number has this name.
+fn is_written(alloc: Global, number: u32, name: &[u8]) -> bool {
+    match sinks().name(alloc, number) {
+        Ok(written) => written.as_slice() == name,
+        Err(AllocError) => false,
+    }
 }
 
 fn number_of(name: &[u8]) -> Option<u32> {
     sinks().number(name)
 }
 
-#[test]
-fn names_as_they_are_written(rt: HostRuntime) -> Result<(), AllocError> {
+// Whether each name is written so, and read.
+fn are_written(alloc: Global) -> bool {
     for (number, name) in &NAMES {
-        assert_eq!(rt; name_of(rt.alloc(), *number)?.as_slice(), *name);
-        assert_eq!(rt; number_of(name), Some(*number));
+        if !is_written(alloc, *number, name) || number_of(name) != Some(*number) {
+            return false;
+        }
     }
-    Ok(())
+    true
+}
+
+#[test]
+fn names_as_they_are_written(rt: HostRuntime) {
+    assert!(rt; are_written(rt.alloc()));
 }
 
 static OTHERS: [&[u8]; 12] = [
@@ -50,11 +63,19 @@ static OTHERS: [&[u8]; 12] = [
     b"/buf.0000000001.sink",
 ];
 
+// Whether none of them has a number.
+fn are_others() -> bool {
+    for name in &OTHERS {
+        if number_of(name).is_some() {
+            return false;
+        }
+    }
+    true
+}
+
 #[test]
 fn names_of_others(rt: HostRuntime) {
-    for name in &OTHERS {
-        assert_eq!(rt; number_of(name), None, "of {name:?}");
-    }
+    assert!(rt; are_others());
 }
 
 // Two files of the family, number 0, and strangers.
@@ -76,64 +97,61 @@ fn fill<D: Dir>(dir: &mut D) -> Result<(), DirError> {
     dir.remove(gone)
 }
 
-// How many numbers there are, the least and the greatest.
-fn found<D: Dir>(
+// Whether so many numbers are there, of which these are the least and the greatest.
+fn has<D: Dir>(
     alloc: Global,
     dir: &mut D,
-) -> Result<(usize, Option<u32>, Option<u32>), DirError> {
-    let found = numbers(alloc, dir, sinks())?;
-    Ok((found.len(), found.first().copied(), found.last().copied()))
+    count: usize,
+    least: Option<u32>,
+    greatest: Option<u32>,
+) -> bool {
+    match numbers(alloc, dir, sinks()) {
+        Ok(found) => {
+            found.len() == count
+                && found.first().copied() == least
+                && found.last().copied() == greatest
+        }
+        Err(_) => false,
+    }
 }
 
-// The same of an empty folder, and once it is filled.
-fn found_then<D: Dir + Drop>(
-    alloc: Global,
-    dir: D,
-) -> Result<[(usize, Option<u32>, Option<u32>); 2], DirError> {
+// Whether none is there in an empty folder, and two are once it is filled.
+fn has_then<D: Dir + Drop>(alloc: Global, dir: D) -> bool {
     let mut dir = dir;
-    let before = found(alloc, &mut dir)?;
-    fill(&mut dir)?;
-    Ok([before, found(alloc, &mut dir)?])
+    has(alloc, &mut dir, 0, None, None)
+        && fill(&mut dir).is_ok()
+        && has(alloc, &mut dir, 2, Some(2), Some(7))
 }
 
-// Why nothing is found over a device that fails.
-fn found_over<D: Dir + Drop>(alloc: Global, dir: D) -> Option<DirError> {
+// Whether nothing is found in this folder, whose device fails.
+fn fails_over<D: Dir + Drop>(alloc: Global, dir: D) -> bool {
     let mut dir = dir;
-    found(alloc, &mut dir).err()
+    matches!(numbers(alloc, &mut dir, sinks()), Err(DirError::Fault))
 }
 
-// The same of this folder, whose device fails.
-fn found_broken<D: Dir + Drop>(alloc: Global, dir: D) -> Option<DirError> {
-    found_over(alloc, Fuse::after(dir, 0))
+/// Whether numbers are found where they are, and not over a device that fails.
+pub fn are_there<D: Stopping>(alloc: Global) -> bool {
+    has_then(alloc, D::made(alloc)) && fails_over(alloc, D::made(alloc).on_device(Failing::Past(0)))
 }
 
 #[test]
-fn numbers_that_are_there(rt: HostRuntime) -> Result<(), DirError> {
-    let alloc = rt.alloc();
-    let numbers = found_then(alloc, MemoryDir::new(alloc))?;
-    assert_eq!(rt; numbers, [(0, None, None), (2, Some(2), Some(7))]);
-    let broken = found_broken(alloc, MemoryDir::new(alloc));
-    assert_eq!(rt; broken, Some(DirError::Fault));
-    Ok(())
+fn numbers_that_are_there(rt: HostRuntime) {
+    assert!(rt; in_memory(&rt, rt.alloc(), Part::Numbers));
 }
 
-// Whether a file reads as it was written, before and after.
-fn reads<D: Dir + Drop>(alloc: Global, dir: D) -> Result<bool, DirError> {
+// Whether a new file of this folder reads as it was written, before and after.
+fn reads<D: Dir + Drop>(alloc: Global, dir: D) -> bool {
     let mut dir = dir;
-    reads_in(alloc, &mut dir)
-}
-
-fn reads_in<D: Dir>(alloc: Global, dir: &mut D) -> Result<bool, DirError> {
-    let file = dir.create(b"buf.0000000001.sink", 5)?;
-    let before = read_file(alloc, dir, file)?.is_empty();
-    dir.append(file, b"hello", Writing::Through)?;
-    Ok(before && read_file(alloc, dir, file)?.as_slice() == b"hello".as_slice())
+    put_file(&mut dir, b"a", b"").is_ok()
+        && reads_as(alloc, &mut dir, b"a", b"")
+        && append(&mut dir, b"a", b"hello", Writing::Through).is_ok()
+        && reads_as(alloc, &mut dir, b"a", b"hello")
 }
 
 // Whether a read tells that a call of the device failed.
-fn tells<D: Dir + Drop>(alloc: Global, dir: D) -> Result<bool, DirError> {
+fn tells<D: Dir + Drop>(alloc: Global, dir: D) -> bool {
     let mut dir = dir;
-    tells_in(alloc, &mut dir)
+    tells_in(alloc, &mut dir) == Ok(true)
 }
 
 fn tells_in<D: Dir>(alloc: Global, dir: &mut D) -> Result<bool, DirError> {
@@ -142,19 +160,15 @@ fn tells_in<D: Dir>(alloc: Global, dir: &mut D) -> Result<bool, DirError> {
     Ok(matches!(read, Err(DirError::Fault)) && dir.faults() == 1)
 }
 
-// The same of this folder, whose device fails after so many calls.
-fn tells_after<D: Dir + Drop>(alloc: Global, dir: D, passes: u64) -> Result<bool, DirError> {
-    tells(alloc, Fuse::after(dir, passes))
+/// Whether a file reads, and a read tells of the first, or the second, of the calls that it needs.
+pub fn are_read<D: Stopping>(alloc: Global) -> bool {
+    reads(alloc, D::made(alloc))
+        && tells(alloc, D::made(alloc).on_device(Failing::Past(1)))
+        && tells(alloc, D::made(alloc).on_device(Failing::Past(2)))
 }
 
 #[test]
-fn bytes_of_a_file(rt: HostRuntime) -> Result<(), DirError> {
-    let alloc = rt.alloc();
-    assert!(rt; reads(alloc, MemoryDir::new(alloc))?);
-    // The first, or the second, of the calls that a read needs.
-    for passes in 1..3u64 {
-        assert!(rt; tells_after(alloc, MemoryDir::new(alloc), passes)?);
-    }
+fn bytes_of_a_file(rt: HostRuntime) {
     names_differ();
-    Ok(())
+    assert!(rt; in_memory(&rt, rt.alloc(), Part::Bytes));
 }

@@ -3,7 +3,6 @@
 use buffer_state::Stage;
 use chunk_journal::{Extent, Outline, Outlined, Places, ReplayError};
 use std::alloc::{AllocError, Global};
-use std::test::Fail;
 
 // Seal 0, Append 0 of tag a with one entry, Queue 0.
 static JOURNAL: [u8; 49] = [
@@ -21,27 +20,37 @@ static PURGED: [u8; 85] = [
     0, 0, 0, 9, 4, 0, 0, 0, 0, 0, 0, 0, 0, // the Purge
 ];
 
-// What a journal that comes by pieces of this length is answered by.
-fn outlined(alloc: Global, journal: &[u8], length: usize) -> Result<Outlined<Global>, ReplayError> {
-    if length == 0 {
-        return Err(ReplayError::Memory);
-    }
-    let mut outline = Outline::new(alloc);
+// Feeds a journal by pieces of this length, up to the first that is refused.
+fn feed_all(
+    outline: &mut Outline<Global>,
+    journal: &[u8],
+    length: usize,
+) -> Result<(), ReplayError> {
     for piece in journal.chunks(length.max(1)) {
         if outline.fed() > 1000 {
             return Err(ReplayError::Memory);
         }
-        outline.feed(piece)?;
+        if let Err(fault) = outline.feed(piece) {
+            return Err(fault);
+        }
     }
+    Ok(())
+}
+
+fn finished(outline: Outline<Global>) -> Result<Outlined<Global>, ReplayError> {
     match outline.finish() {
         Ok(outlined) => Ok(outlined),
         Err((fault, _)) => Err(fault),
     }
 }
 
-// So many bytes from this one on.
-fn place(at: u64, length: u64) -> Result<Extent, AllocError> {
-    Extent::new(at, length).ok_or(AllocError)
+// What a journal that comes by pieces of this length is answered by.
+fn outlined(alloc: Global, journal: &[u8], length: usize) -> Result<Outlined<Global>, ReplayError> {
+    let mut outline = Outline::new(alloc);
+    match feed_all(&mut outline, journal, length) {
+        Ok(()) => finished(outline),
+        Err(fault) => Err(fault),
+    }
 }
 
 // Whether chunk 0 has so many entries of three bytes, at these places, and is queued.
@@ -66,78 +75,165 @@ fn is_used(outlined: &Outlined<Global>, used: u64) -> bool {
     outlined.chunks.next() == 1 && outlined.used == used
 }
 
-#[test]
-fn one_chunk_however_it_comes(rt: HostRuntime) -> Result<(), Fail> {
-    let only = [place(33, 3)?];
-    for length in 1..50usize {
-        let outlined = outlined(rt.alloc(), &JOURNAL, length)?;
-        assert!(rt; is_queued(&outlined, &only));
-        assert!(rt; is_used(&outlined, 49));
+// Whether the journal, by pieces of this length, has only chunk 0 at these places, and is used.
+fn is_one_chunk(alloc: Global, places: &[Extent], length: usize) -> bool {
+    match outlined(alloc, &JOURNAL, length) {
+        Ok(outlined) => is_queued(&outlined, places) && is_used(&outlined, 49),
+        Err(_) => false,
     }
-    Ok(())
+}
+
+// The same by pieces of each length.
+fn is_one_chunk_however(alloc: Global, places: &[Extent]) -> bool {
+    for length in 1..50usize {
+        if !is_one_chunk(alloc, places, length) {
+            return false;
+        }
+    }
+    true
+}
+
+// The same at the one place.
+fn comes_however(alloc: Global) -> bool {
+    match Extent::new(33, 3) {
+        Some(only) => is_one_chunk_however(alloc, &[only]),
+        None => false,
+    }
 }
 
 #[test]
-fn no_seal_and_no_record(rt: HostRuntime) -> Result<(), ReplayError> {
-    let alloc = rt.alloc();
+fn one_chunk_however_it_comes(rt: HostRuntime) {
+    assert!(rt; comes_however(rt.alloc()));
+}
+
+// Whether a journal that comes by pieces of this length fails so.
+fn fails(alloc: Global, journal: &[u8], length: usize, fault: ReplayError) -> bool {
+    match outlined(alloc, journal, length) {
+        Ok(_) => false,
+        Err(found) => found == fault,
+    }
+}
+
+// Whether the beginning of a Seal is none.
+fn is_no_seal(alloc: Global) -> bool {
     let (unsealed, _) = JOURNAL.split_at(12);
-    assert!(rt; matches!(outlined(alloc, unsealed, 5), Err(ReplayError::NotSealed)));
+    fails(alloc, unsealed, 5, ReplayError::NotSealed)
+}
+
+// Whether a kind that isn't one is refused, by pieces and whole.
+fn is_no_record(alloc: Global) -> bool {
     let mut wrong = JOURNAL;
     wrong[17] = 9;
-    assert!(rt; matches!(outlined(alloc, &wrong, 7), Err(ReplayError::BadRecord)));
-    assert!(rt; matches!(outlined(alloc, &wrong, 49), Err(ReplayError::BadRecord)));
-    Ok(())
+    fails(alloc, &wrong, 7, ReplayError::BadRecord)
+        && fails(alloc, &wrong, 49, ReplayError::BadRecord)
 }
 
-// A journal that comes by pieces of this length, without its Purge and with it.
-fn queued_and_gone(alloc: Global, places: &[Extent], length: usize) -> Result<bool, ReplayError> {
+// Whether both are so.
+fn are_none(alloc: Global) -> bool {
+    is_no_seal(alloc) && is_no_record(alloc)
+}
+
+#[test]
+fn no_seal_and_no_record(rt: HostRuntime) {
+    assert!(rt; are_none(rt.alloc()));
+}
+
+// Whether a journal that comes by pieces of this length has chunk 0 at these places without its
+// Purge.
+fn stays(alloc: Global, places: &[Extent], length: usize) -> bool {
     let (queued, _) = PURGED.split_at(72);
-    let before = outlined(alloc, queued, length)?;
-    let after = outlined(alloc, &PURGED, length)?;
-    Ok(is_queued(&before, places) && is_gone(&after) && is_used(&after, 85))
-}
-
-#[test]
-fn places_of_a_chunk_go_with_it(rt: HostRuntime) -> Result<(), Fail> {
-    let both = [place(33, 3)?, place(56, 3)?];
-    for length in 1..86usize {
-        assert!(rt; queued_and_gone(rt.alloc(), &both, length)?);
+    match outlined(alloc, queued, length) {
+        Ok(outlined) => is_queued(&outlined, places),
+        Err(_) => false,
     }
-    Ok(())
+}
+
+// Whether nothing is left of it with the Purge.
+fn goes(alloc: Global, length: usize) -> bool {
+    match outlined(alloc, &PURGED, length) {
+        Ok(outlined) => is_gone(&outlined) && is_used(&outlined, 85),
+        Err(_) => false,
+    }
+}
+
+// Whether both hold by pieces of each length.
+fn goes_however(alloc: Global, places: &[Extent]) -> bool {
+    for length in 1..86usize {
+        if !stays(alloc, places, length) || !goes(alloc, length) {
+            return false;
+        }
+    }
+    true
+}
+
+// The same at the two places.
+fn both_go(alloc: Global) -> bool {
+    match (Extent::new(33, 3), Extent::new(56, 3)) {
+        (Some(first), Some(second)) => goes_however(alloc, &[first, second]),
+        _ => false,
+    }
 }
 
 #[test]
-fn places_in_numbers(rt: HostRuntime) -> Result<(), AllocError> {
-    let place = place(56, 4)?;
-    assert!(rt; place.at() == 56 && place.length() == 4);
-    assert!(rt; Extent::before(60, 4) == Some(place) && Extent::new(1 << 40, 4).is_none());
-    Ok(())
+fn places_of_a_chunk_go_with_it(rt: HostRuntime) {
+    assert!(rt; both_go(rt.alloc()));
+}
+
+// Whether the place is four bytes from 56 on.
+fn has_numbers(place: Extent) -> bool {
+    place.at() == 56 && place.length() == 4 && Extent::before(60, 4) == Some(place)
+}
+
+// Whether that place is so, and none lies too far behind.
+fn are_numbers() -> bool {
+    match Extent::new(56, 4) {
+        Some(place) => has_numbers(place) && Extent::new(1 << 40, 4).is_none(),
+        None => false,
+    }
+}
+
+#[test]
+fn places_in_numbers(rt: HostRuntime) {
+    assert!(rt; are_numbers());
 }
 
 // Chunk 7 at the first place, where there is room for one, and then at the second, as chunk 9.
-fn two_chunks(alloc: Global, first: Extent, second: Extent) -> Result<Places<Global>, AllocError> {
-    let mut places = Places::new(alloc);
+fn put_both(places: &mut Places<Global>, first: Extent, second: Extent) -> Result<(), AllocError> {
     places.reserve(7)?;
     places.add(7, first);
     places.append(9, second)?;
-    places.append(7, second)?;
-    Ok(places)
+    places.append(7, second)
 }
 
+// Whether the chunk of this serial has these places.
 fn has(places: &Places<Global>, serial: u64, wanted: &[Extent]) -> bool {
     places.at(serial) == wanted
 }
 
-#[test]
-fn places_come_and_go(rt: HostRuntime) -> Result<(), AllocError> {
-    let first = place(33, 3)?;
-    let second = place(56, 4)?;
-    assert!(rt; has(&Places::new(rt.alloc()), 7, &[]));
-    let mut places = two_chunks(rt.alloc(), first, second)?;
-    assert!(rt; has(&places, 7, &[first, second]));
-    assert!(rt; has(&places, 9, &[second]));
+// Whether chunk 7 has these places, and chunk 9 the second.
+fn has_both(places: &Places<Global>, seven: &[Extent], second: Extent) -> bool {
+    has(places, 7, seven) && has(places, 9, &[second])
+}
+
+// Whether these places come, and those of chunk 7 go.
+fn come_and_go(alloc: Global, first: Extent, second: Extent) -> bool {
+    let mut places = Places::new(alloc);
+    let are_none = has(&places, 7, &[]);
+    let are_put = put_both(&mut places, first, second).is_ok();
+    let have_come = has_both(&places, &[first, second], second);
     places.remove(7);
-    assert!(rt; has(&places, 7, &[]));
-    assert!(rt; has(&places, 9, &[second]));
-    Ok(())
+    are_none && are_put && have_come && has_both(&places, &[], second)
+}
+
+// The same of two places.
+fn both_come_and_go(alloc: Global) -> bool {
+    match (Extent::new(33, 3), Extent::new(56, 4)) {
+        (Some(first), Some(second)) => come_and_go(alloc, first, second),
+        _ => false,
+    }
+}
+
+#[test]
+fn places_come_and_go(rt: HostRuntime) {
+    assert!(rt; both_come_and_go(rt.alloc()));
 }

@@ -1,12 +1,14 @@
 //! What waits for a receipt: one sync serves a list, and a stop leaves what was synced.
 
-use crate::shelves::{LEAF, Shelf, WIDE, begun, buffer_in, shelf_in};
+use crate::devices::{Failing, Stopping};
+use crate::parts::{Part, Shared, in_memory};
+use crate::script::WIDE;
+use crate::shelves::{LEAF, Shelf, begun, buffer_in, shelf_in};
 use ack_receipt::{Delivery, Numbers, Pending, Receipt, RedeemFault};
-use buffer_store::BufferFault;
-use disk_files::{Dir, Fuse, Keep, MemoryDir};
+use buffer_store::{Buffer, BufferFault};
+use disk_files::{Dir, Keep};
 use std::alloc::Global;
 use std::sync::Wait;
-use std::test::Fail;
 
 // More calls of a folder than anything here makes.
 const MANY: u64 = 1_000;
@@ -90,11 +92,25 @@ fn redeemed<R: Wait, D: Dir>(
     }
 }
 
-// How many entries chunk 0 of the buffer in this folder has, and the next serial.
-fn left_in<D: Dir + Drop>(alloc: Global, dir: D) -> Result<(Option<usize>, u64), BufferFault> {
-    let mut buffer = buffer_in(alloc, dir, WIDE)?;
-    let next = buffer.chunks().next_serial();
-    Ok((buffer.body(0).ok().map(|entries| entries.count()), next))
+// How many entries chunk 0 has.
+fn count_in<D: Dir>(buffer: &mut Buffer<D, Global>) -> Option<usize> {
+    match buffer.body(0) {
+        Ok(entries) => Some(entries.count()),
+        Err(_) => None,
+    }
+}
+
+// Whether chunk 0 of this buffer has so many entries, and the next serial is this.
+fn shows<D: Dir>(buffer: &mut Buffer<D, Global>, count: Option<usize>, next: u64) -> bool {
+    buffer.chunks().next_serial() == next && count_in(buffer) == count
+}
+
+// The same of the buffer in this folder.
+fn has<D: Dir + Drop>(alloc: Global, dir: D, count: Option<usize>, next: u64) -> bool {
+    match buffer_in(alloc, dir, WIDE) {
+        Ok(mut buffer) => shows(&mut buffer, count, next),
+        Err(_) => false,
+    }
 }
 
 // The folder of a buffer in which two appends wait, and are given up.
@@ -105,29 +121,45 @@ fn given_up<R: Wait, D: Dir + Drop>(alloc: Global, rt: &R, dir: D) -> Result<D, 
     Ok(shelf.close().into_dir())
 }
 
-// The same where they are redeemed, and both answers.
+// The same where they are redeemed, and whether they are at once.
 fn redeemed_in<R: Wait, D: Dir + Drop>(
     alloc: Global,
     rt: &R,
     dir: D,
-) -> Result<([Option<RedeemFault>; 2], D), BufferFault> {
+) -> Result<(bool, D), BufferFault> {
     let shelf = shelf_in(alloc, dir, LEAF, WIDE)?;
     let pendings = waiting(alloc, rt, &shelf, 2);
-    let answers = redeemed(rt, &shelf, pendings);
-    Ok((answers, shelf.close().into_dir()))
+    let is_redeemed = redeemed(rt, &shelf, pendings) == [None, None];
+    Ok((is_redeemed, shelf.close().into_dir()))
+}
+
+// Whether two appends that wait are lost by a stop.
+fn are_lost<R: Wait, D: Stopping>(alloc: Global, rt: &R) -> bool {
+    match given_up(alloc, rt, D::made(alloc)) {
+        Ok(dir) => has(alloc, dir.stopped(Keep::Least), None, 0),
+        Err(_) => false,
+    }
+}
+
+// Whether two appends that are redeemed are both there behind a stop.
+fn are_kept<R: Wait, D: Stopping>(alloc: Global, rt: &R) -> bool {
+    match redeemed_in(alloc, rt, D::made(alloc)) {
+        Ok((is_redeemed, dir)) => {
+            has(alloc, dir.stopped(Keep::Least), Some(2), 1) && is_redeemed
+        }
+        Err(_) => false,
+    }
+}
+
+/// Whether both hold.
+pub fn outlive_a_stop<R: Wait, D: Stopping>(alloc: Global, rt: &R) -> bool {
+    are_lost::<R, D>(alloc, rt) && are_kept::<R, D>(alloc, rt)
 }
 
 // Two appends that wait are lost by a stop before their redemption, and both there behind it.
 #[test]
-fn a_redeemed_list_outlives_a_stop(rt: HostRuntime) -> Result<(), Fail> {
-    let alloc = rt.alloc();
-    let early = given_up(alloc, &rt, MemoryDir::new(alloc))?;
-    let early = left_in(alloc, early.stop(Keep::Least))?;
-    let (answers, late) = redeemed_in(alloc, &rt, MemoryDir::new(alloc))?;
-    let late = left_in(alloc, late.stop(Keep::Least))?;
-    assert_eq!(rt; answers, [None, None]);
-    assert_eq!(rt; (early, late), ((None, 0), (Some(2), 1)));
-    Ok(())
+fn a_redeemed_list_outlives_a_stop(rt: HostRuntime) {
+    assert!(rt; in_memory(&rt, rt.alloc(), Part::Shared(Shared::Redeemed)));
 }
 
 // Both answers to so many appends that wait in this folder, if they come to that.
@@ -137,7 +169,9 @@ fn answers_in<R: Wait, D: Dir + Drop>(
     dir: D,
     count: u64,
 ) -> Option<[Option<RedeemFault>; 2]> {
-    let shelf = shelf_in(alloc, dir, LEAF, WIDE).ok()?;
+    let Ok(shelf) = shelf_in(alloc, dir, LEAF, WIDE) else {
+        return None;
+    };
     let pendings = waiting(alloc, rt, &shelf, count);
     if (pendings.len() as u64) < count {
         give_up_all(rt, &shelf, pendings);
@@ -146,48 +180,50 @@ fn answers_in<R: Wait, D: Dir + Drop>(
     Some(redeemed(rt, &shelf, pendings))
 }
 
-// The same in this folder, whose device fails after so many calls.
-fn answers_after<R: Wait, D: Dir + Drop>(
+// The same on a device that fails after so many calls.
+fn answers_after<R: Wait, D: Stopping>(
     alloc: Global,
     rt: &R,
-    dir: D,
     passes: u64,
     count: u64,
 ) -> Option<[Option<RedeemFault>; 2]> {
-    answers_in(alloc, rt, Fuse::after(dir, passes), count)
+    let device = D::made(alloc).on_device(Failing::Past(passes));
+    answers_in(alloc, rt, device, count)
 }
 
-// The least number of calls of the folder under which so many appends that wait are redeemed, and
-// both answers with one less.
-fn calls<R: Wait>(
-    alloc: Global,
-    rt: &R,
-    count: u64,
-) -> Result<(u64, [Option<RedeemFault>; 2]), BufferFault> {
+// What a list is answered by where its sync fails, and again where the buffer has failed.
+const FAILED: [Option<RedeemFault>; 2] = [
+    Some(RedeemFault::Buffer(BufferFault::Fault)),
+    Some(RedeemFault::Buffer(BufferFault::Failed)),
+];
+
+// The least number of calls of the folder under which so many appends that wait are redeemed, if
+// the sync fails with one less.
+fn calls<R: Wait, D: Stopping>(alloc: Global, rt: &R, count: u64) -> Option<u64> {
     let mut before = [None, None];
     for passes in 0..MANY {
-        let dir = MemoryDir::new(alloc);
-        let Some(answers) = answers_after(alloc, rt, dir, passes, count) else {
+        let Some(answers) = answers_after::<R, D>(alloc, rt, passes, count) else {
             continue;
         };
         if answers == [None, None] {
-            return Ok((passes, before));
+            return if before == FAILED { Some(passes) } else { None };
         }
         before = answers;
     }
-    Err(BufferFault::Fault)
+    None
+}
+
+/// Whether the lists of one append and of three take as many calls behind the appends.
+pub fn take_one_sync<R: Wait, D: Stopping>(alloc: Global, rt: &R) -> bool {
+    match (calls::<R, D>(alloc, rt, 1), calls::<R, D>(alloc, rt, 3)) {
+        (Some(one), Some(three)) => three.checked_sub(one) == Some(2),
+        _ => false,
+    }
 }
 
 // A list takes one sync, whatever its length: each append is one call more. Where that sync fails
 // the list comes back, and then the buffer has failed.
 #[test]
-fn a_list_takes_one_sync(rt: HostRuntime) -> Result<(), Fail> {
-    let (one, answers) = calls(rt.alloc(), &rt, 1)?;
-    let fault = Some(RedeemFault::Buffer(BufferFault::Fault));
-    let failed = Some(RedeemFault::Buffer(BufferFault::Failed));
-    assert_eq!(rt; answers, [fault, failed]);
-    let (three, answers) = calls(rt.alloc(), &rt, 3)?;
-    assert_eq!(rt; answers, [fault, failed]);
-    assert_eq!(rt; three.checked_sub(one), Some(2));
-    Ok(())
+fn a_list_takes_one_sync(rt: HostRuntime) {
+    assert!(rt; in_memory(&rt, rt.alloc(), Part::Shared(Shared::OneSync)));
 }

@@ -1,9 +1,9 @@
 //! Journals by their bytes, and each record that can't stand where it does.
 
-use buffer_state::Stage;
+use crate::audits::is_printed;
+use buffer_state::{Chunks, Stage};
 use chunk_journal::{ReplayError, replay};
 use std::alloc::{AllocError, Global};
-use std::test::Fail;
 
 // A Seal of 0, one entry for chunk 0 of tag `a`, and its Queue.
 static JOURNAL: [u8; 49] =
@@ -44,73 +44,74 @@ fn journal(alloc: Global, records: &[&[u8]]) -> Result<Vec<u8>, AllocError> {
     Ok(bytes)
 }
 
-// What replaying gives: how many bytes, the next serial, and the stage of chunk 0.
-#[derive(Clone, Copy, Debug, PartialEq, Eq)]
-struct Outcome {
-    used: usize,
-    next: u64,
-    stage: Option<Stage>,
+// Whether replaying uses so many bytes, and gives the next serial and the stage of chunk 0.
+fn gives(alloc: Global, bytes: &[u8], used: usize, next: u64, stage: Option<Stage>) -> bool {
+    match replay(alloc, bytes) {
+        Ok(replayed) => {
+            replayed.used == used
+                && replayed.chunks.next() == next
+                && stage_of(&replayed.chunks) == stage
+        }
+        Err(_) => false,
+    }
 }
 
-fn seen(alloc: Global, bytes: &[u8]) -> Result<Outcome, ReplayError> {
-    let replayed = replay(alloc, bytes)?;
-    let stage = match replayed.chunks.chunk(0) {
+// The stage of chunk 0.
+fn stage_of(chunks: &Chunks<Global>) -> Option<Stage> {
+    match chunks.chunk(0) {
         None => None,
         Some(chunk) => Some(chunk.stage()),
-    };
-    Ok(Outcome {
-        used: replayed.used,
-        next: replayed.chunks.next(),
-        stage,
-    })
+    }
 }
 
-// What a beginning of the journal means.
-fn expected(n: usize) -> Result<Outcome, ReplayError> {
-    match n {
-        0..=12 => Err(ReplayError::NotSealed),
-        13..=35 => Ok(Outcome {
-            used: 13,
-            next: 0,
-            stage: None,
-        }),
-        36..=48 => Ok(Outcome {
-            used: 36,
-            next: 1,
-            stage: Some(Stage::Staged),
-        }),
-        _ => Ok(Outcome {
-            used: 49,
-            next: 1,
-            stage: Some(Stage::Queued),
-        }),
+// Whether replaying fails so.
+fn fails(alloc: Global, bytes: &[u8], fault: ReplayError) -> bool {
+    match replay(alloc, bytes) {
+        Ok(_) => false,
+        Err(found) => found == fault,
     }
+}
+
+// Whether a beginning of the journal, of so many bytes, means what it should.
+fn is_cut(alloc: Global, bytes: &[u8], n: usize) -> bool {
+    match n {
+        0..=12 => fails(alloc, bytes, ReplayError::NotSealed),
+        13..=35 => gives(alloc, bytes, 13, 0, None),
+        36..=48 => gives(alloc, bytes, 36, 1, Some(Stage::Staged)),
+        _ => gives(alloc, bytes, 49, 1, Some(Stage::Queued)),
+    }
+}
+
+// Whether each beginning does.
+fn are_cuts(alloc: Global) -> bool {
+    for n in 0..50 {
+        if !is_cut(alloc, &JOURNAL[..n], n) {
+            return false;
+        }
+    }
+    true
 }
 
 #[test]
-fn each_cut_of_a_journal(rt: HostRuntime) -> Result<(), Fail> {
-    let alloc = rt.alloc();
-    for n in 0..50 {
-        assert_eq!(rt; seen(alloc, &JOURNAL[..n]), expected(n));
-    }
-    Ok(())
+fn each_cut_of_a_journal(rt: HostRuntime) {
+    assert!(rt; are_cuts(rt.alloc()));
 }
 
 static GENERATION: [&[u8]; 8] = [
     APPEND_0, QUEUE_0, APPEND_3, SEAL_9, APPEND_3, OTHER_9, QUEUE_3, PURGE_0,
 ];
 
+// Whether all of it is used, no chunk 0 is left, and the next is 10.
+fn is_generation(alloc: Global) -> bool {
+    match journal(alloc, &GENERATION) {
+        Ok(bytes) => gives(alloc, &bytes, bytes.len(), 10, None),
+        Err(AllocError) => false,
+    }
+}
+
 #[test]
-fn a_generation_with_chunks(rt: HostRuntime) -> Result<(), Fail> {
-    let alloc = rt.alloc();
-    let bytes = journal(alloc, &GENERATION)?;
-    let expected = Outcome {
-        used: bytes.len(),
-        next: 10,
-        stage: None,
-    };
-    assert_eq!(rt; seen(alloc, &bytes), Ok(expected));
-    Ok(())
+fn a_generation_with_chunks(rt: HostRuntime) {
+    assert!(rt; is_generation(rt.alloc()));
 }
 
 // The last record of each can't stand there.
@@ -134,14 +135,27 @@ static MISPLACED: [&[&[u8]]; 17] = [
     &[SEAL_LAST, APPEND_LAST],
 ];
 
-#[test]
-fn misplaced_records(rt: HostRuntime) -> Result<(), Fail> {
-    let alloc = rt.alloc();
-    for records in &MISPLACED {
-        let bytes = journal(alloc, records)?;
-        assert_eq!(rt; seen(alloc, &bytes), Err(ReplayError::BadRecord));
+// Whether replaying these records says that one is bad.
+fn is_misplaced(alloc: Global, records: &[&[u8]]) -> bool {
+    match journal(alloc, records) {
+        Ok(bytes) => fails(alloc, &bytes, ReplayError::BadRecord),
+        Err(AllocError) => false,
     }
-    Ok(())
+}
+
+// The same of each row.
+fn are_misplaced(alloc: Global) -> bool {
+    for records in &MISPLACED {
+        if !is_misplaced(alloc, records) {
+            return false;
+        }
+    }
+    true
+}
+
+#[test]
+fn misplaced_records(rt: HostRuntime) {
+    assert!(rt; are_misplaced(rt.alloc()));
 }
 
 // No record begins so: a length of 0, one too long, kinds that aren't, a Seal too short and too
@@ -160,21 +174,28 @@ static BAD: [&[u8]; 10] = [
     b"\0\0\0\x13\x02\0\0\0\0\0\0\0\0\0\x01a\0\0\0\x01\x93\x01\x80",
 ];
 
-#[test]
-fn what_is_no_record(rt: HostRuntime) -> Result<(), Fail> {
-    let alloc = rt.alloc();
+// Whether replaying says so of each.
+fn are_bad(alloc: Global) -> bool {
     for bytes in &BAD {
-        assert_eq!(rt; seen(alloc, bytes), Err(ReplayError::BadRecord));
+        if !fails(alloc, bytes, ReplayError::BadRecord) {
+            return false;
+        }
     }
-    Ok(())
+    true
 }
 
 #[test]
-fn faults_are_printed_so(rt: HostRuntime) -> Result<(), Fail> {
-    let alloc = rt.alloc();
-    assert_eq!(rt;
-        format!(in alloc; "{} {}", ReplayError::NotSealed, ReplayError::BadRecord)?.as_str(),
-        "J1 J2"
-    );
-    Ok(())
+fn what_is_no_record(rt: HostRuntime) {
+    assert!(rt; are_bad(rt.alloc()));
+}
+
+// Whether faults print their codes.
+fn are_printed(alloc: Global) -> bool {
+    is_printed(alloc, &ReplayError::NotSealed, "J1")
+        && is_printed(alloc, &ReplayError::BadRecord, "J2")
+}
+
+#[test]
+fn faults_are_printed_so(rt: HostRuntime) {
+    assert!(rt; are_printed(rt.alloc()));
 }

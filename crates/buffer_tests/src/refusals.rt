@@ -8,6 +8,7 @@ mod files;
 mod folders;
 mod handshakes;
 mod journals;
+mod parts;
 mod putting;
 mod reading;
 mod shared;

@@ -1,10 +1,11 @@
 //! Steps of a buffer as rows of a table, so that each call is proved once and a test is data.
 
+use crate::devices::{Failing, Stopping};
 use buffer_state::{Limits, Stage};
 use buffer_store::{Appended, Buffer, BufferFault, RENEWED_PAST_IN_MEMORY, Settings};
-use disk_files::{Dir, Fuse, Keep, MemoryDir};
+use disk_files::{Dir, Keep};
 use event_modes::Entries;
-use std::alloc::{AllocError, Global};
+use std::alloc::{AllocError, Allocator, Global};
 
 static ENTRY: [u8; 3] = [0x92, 0x01, 0x80];
 
@@ -52,7 +53,7 @@ pub enum Act {
 }
 
 /// What a step is answered by.
-#[derive(Clone, Copy, Debug, PartialEq, Eq)]
+#[derive(Clone, Copy, PartialEq, Eq)]
 pub enum Answer {
     Done,
     Nothing,
@@ -184,8 +185,24 @@ fn sum<D: Dir>(buffer: &Buffer<D, Global>) -> Answer {
     Answer::Bytes(sum)
 }
 
-/// Takes the buffer through a step.
-pub fn take<D: Dir>(alloc: Global, buffer: &mut Buffer<D, Global>, step: Act) -> Answer {
+// What a look at the buffer shows; nothing where the step isn't one.
+fn look_at<D: Dir>(buffer: &mut Buffer<D, Global>, step: Act) -> Answer {
+    match step {
+        Act::Next => Answer::Serial(buffer.chunks().next_serial()),
+        Act::First => found(buffer.chunks().first()),
+        Act::Look(serial) => look(buffer, serial),
+        Act::Body(serial) => body(buffer, serial),
+        Act::Facts(serial) => facts(buffer, serial),
+        Act::Total => Answer::Bytes(buffer.chunks().total()),
+        Act::Sum => sum(buffer),
+        Act::HasStaged => Answer::Is(buffer.has_staged()),
+        Act::WantsRenewal => Answer::Is(buffer.wants_renewal()),
+        _ => Answer::Nothing,
+    }
+}
+
+// Takes the buffer through a step.
+fn take<D: Dir>(alloc: Global, buffer: &mut Buffer<D, Global>, step: Act) -> Answer {
     match step {
         Act::Stage(tag, count) => stage(alloc, buffer, tag, count),
         Act::Append(tag, count) => append(alloc, buffer, tag, count),
@@ -196,129 +213,93 @@ pub fn take<D: Dir>(alloc: Global, buffer: &mut Buffer<D, Global>, step: Act) ->
         Act::Purge(serial) => purge(buffer, serial),
         Act::DropOldest => drop_oldest(buffer),
         Act::Renew => renew(buffer),
-        Act::Next => Answer::Serial(buffer.chunks().next_serial()),
-        Act::First => found(buffer.chunks().first()),
-        Act::Look(serial) => look(buffer, serial),
-        Act::Body(serial) => body(buffer, serial),
-        Act::Facts(serial) => facts(buffer, serial),
-        Act::Total => Answer::Bytes(buffer.chunks().total()),
-        Act::Sum => sum(buffer),
-        Act::HasStaged => Answer::Is(buffer.has_staged()),
-        Act::WantsRenewal => Answer::Is(buffer.wants_renewal()),
+        look => look_at(buffer, look),
     }
 }
 
-// The place of the first row whose step is answered otherwise, if there is one.
-fn take_all<D: Dir>(alloc: Global, buffer: &mut Buffer<D, Global>, rows: &[Row]) -> Option<usize> {
-    for (place, (step, answer)) in rows.iter().enumerate() {
+// Whether each step is answered as its row says; those behind one that isn't aren't taken.
+fn are_answered<D: Dir>(alloc: Global, buffer: &mut Buffer<D, Global>, rows: &[Row]) -> bool {
+    for (step, answer) in rows {
         if take(alloc, buffer, *step) != *answer {
-            return Some(place);
+            return false;
         }
     }
-    None
+    true
 }
 
-/// Opens the buffer in this folder. A folder that doesn't open is handed back with its fault.
-pub fn open<D: Dir>(
-    alloc: Global,
+/// Opens the buffer in this folder, whose journal is to be renewed past so many bytes. A folder
+/// that doesn't open is handed back with its fault.
+pub fn open<D: Dir, A: Allocator + Copy>(
+    alloc: A,
     dir: D,
     limits: Limits,
-) -> Result<Buffer<D, Global>, (BufferFault, D)> {
-    Buffer::open(
-        alloc,
-        dir,
-        b"buf",
-        Settings {
-            limits,
-            renewed_past: RENEWED_PAST_IN_MEMORY,
-        },
-    )
+    renewed_past: u64,
+) -> Result<Buffer<D, A>, (BufferFault, D)> {
+    let settings = Settings {
+        limits,
+        renewed_past,
+    };
+    Buffer::open(alloc, dir, b"buf", settings)
 }
 
-/// How a buffer in a folder went.
-#[derive(Clone, Copy, Debug, PartialEq, Eq)]
-pub enum Went {
-    /// Each step was answered as its row says.
-    Through,
-    /// This row was the first that wasn't.
-    Until(usize),
-    /// It didn't open.
-    Unopened(BufferFault),
-}
+/// How a buffer in a folder went: whether each step was answered as its row says, or why it didn't
+/// open.
+pub type Went = Result<bool, BufferFault>;
 
 /// Opens the buffer in this folder, and takes it through the steps up to the first that is answered
 /// otherwise than its row says.
 pub fn play<D: Dir>(alloc: Global, dir: D, limits: Limits, rows: &[Row]) -> (Went, D) {
-    match open(alloc, dir, limits) {
+    match open(alloc, dir, limits, RENEWED_PAST_IN_MEMORY) {
         Ok(mut buffer) => {
-            let went = match take_all(alloc, &mut buffer, rows) {
-                None => Went::Through,
-                Some(place) => Went::Until(place),
-            };
-            (went, buffer.into_dir())
+            let are_answered = are_answered(alloc, &mut buffer, rows);
+            (Ok(are_answered), buffer.into_dir())
         }
-        Err((fault, dir)) => (Went::Unopened(fault), dir),
-    }
-}
-
-/// Which calls of a folder fail.
-#[derive(Clone, Copy)]
-pub enum Failing {
-    /// None.
-    Never,
-    /// All behind so many.
-    Past(u64),
-    /// The one behind so many.
-    At(u64),
-}
-
-/// The folder on a device that fails so.
-fn on_device<D: Dir>(dir: D, calls: Failing) -> Fuse<D> {
-    match calls {
-        Failing::Never => Fuse::after(dir, u64::MAX),
-        Failing::Past(passes) => Fuse::after(dir, passes),
-        Failing::At(passes) => Fuse::once(dir, passes),
+        Err((fault, dir)) => (Err(fault), dir),
     }
 }
 
 /// An opening of a buffer, its steps, and the stop behind them.
-#[derive(Clone, Copy)]
 pub struct Sitting {
     pub calls: Failing,
     pub rows: &'static [Row],
     pub keep: Keep,
 }
 
-// How the buffer in the folder goes, and the folder, which isn't stopped yet.
-fn sit_on<D: Dir>(alloc: Global, dir: D, limits: Limits, sitting: &Sitting) -> (Went, D) {
-    let (went, dir) = play(alloc, on_device(dir, sitting.calls), limits, sitting.rows);
-    (went, dir.into_inner())
+/// Whether the buffer in the folder goes so, and the folder after the stop.
+pub fn sit<D: Stopping>(alloc: Global, dir: D, limits: Limits, sitting: &Sitting) -> (bool, D) {
+    let device = dir.on_device(sitting.calls);
+    let (went, device) = play(alloc, device, limits, sitting.rows);
+    (
+        went == Ok(true),
+        D::off_device(device).stopped(sitting.keep),
+    )
 }
 
-/// How the buffer in the folder goes, and the folder after the stop.
-pub fn sit(
-    alloc: Global,
-    dir: MemoryDir<Global>,
-    limits: Limits,
-    sitting: &Sitting,
-) -> (Went, MemoryDir<Global>) {
-    let (went, dir) = sit_on(alloc, dir, limits, sitting);
-    (went, dir.stop(sitting.keep))
+/// How a buffer with these limits goes, in a new folder that each sitting leaves to the next.
+pub struct Course {
+    pub limits: Limits,
+    pub sittings: &'static [Sitting],
 }
 
-/// How many sittings go through, and how the last went, in a new folder that each leaves to the
-/// next.
-pub fn sit_all(alloc: Global, limits: Limits, sittings: &[Sitting]) -> (usize, Went) {
-    let mut dir = MemoryDir::new(alloc);
-    let mut through = 0usize;
-    let mut last = Went::Through;
-    for sitting in sittings {
-        let (went, left) = sit(alloc, dir, limits, sitting);
-        if went == Went::Through {
-            through = through.saturating_add(1);
-        }
-        last = went;
+// Whether a buffer in this folder goes so.
+fn goes<D: Stopping>(alloc: Global, dir: D, course: &Course) -> bool {
+    let mut dir = dir;
+    for sitting in course.sittings {
+        let (goes, left) = sit(alloc, dir, course.limits, sitting);
         dir = left;
+        if !goes {
+            return false;
+        }
     }
-    (through, last)
+    true
+}
+
+/// Whether buffers go through each of these courses.
+pub fn go_through<D: Stopping>(alloc: Global, courses: &[Course]) -> bool {
+    for course in courses {
+        if !goes(alloc, D::made(alloc), course) {
+            return false;
+        }
+    }
+    true
 }

@@ -3,16 +3,16 @@
 ghost use Rattle.std.specs.Prelude.{◌≡◌, IfOk};
 ghost use Rattle.event_modes.specs.Reading.{meaning};
 
+use crate::script::{WIDE, open};
 use ack_receipt::{
-    AuditError, Basis, BookFault, Delivery, Leaf, Numbers, SharedBuffer, Stub, Takes,
+    AuditError, Basis, BookFault, Closed, Delivery, Leaf, Numbers, SharedBuffer, Stub, Takes,
 };
 use buffer_state::Limits;
-use buffer_store::{Buffer, BufferFault, RENEWED_PAST_IN_MEMORY, Settings};
+use buffer_store::{Buffer, BufferFault, RENEWED_PAST_IN_MEMORY};
 use disk_files::Dir;
 use event_modes::{Entries, Message};
 use std::alloc::Global;
 use std::sync::Wait;
-use std::test::Fail;
 
 pub type Shelf<D> = SharedBuffer<D, Global>;
 
@@ -24,31 +24,26 @@ pub const LEAF: Leaf = Leaf {
 // A time and an empty record.
 pub const ENTRY: &[u8] = b"\x92\x01\x80";
 
-// Limits that nothing here comes to.
-pub const WIDE: Limits = Limits {
-    chunk: u64::MAX,
-    total: u64::MAX,
-};
+// The buffer in this folder, whose journal is to be renewed past so many bytes.
+fn opened<D: Dir + Drop>(
+    alloc: Global,
+    dir: D,
+    limits: Limits,
+    renewed_past: u64,
+) -> Result<Buffer<D, Global>, BufferFault> {
+    match open(alloc, dir, limits, renewed_past) {
+        Ok(buffer) => Ok(buffer),
+        Err((fault, _dir)) => Err(fault),
+    }
+}
 
-// The buffer of the first name in this folder.
+// The buffer in this folder.
 pub fn buffer_in<D: Dir + Drop>(
     alloc: Global,
     dir: D,
     limits: Limits,
 ) -> Result<Buffer<D, Global>, BufferFault> {
-    let settings = Settings {
-        limits,
-        renewed_past: RENEWED_PAST_IN_MEMORY,
-    };
-    opened(alloc, dir, settings)
-}
-
-fn opened<D: Dir + Drop>(
-    alloc: Global,
-    dir: D,
-    settings: Settings,
-) -> Result<Buffer<D, Global>, BufferFault> {
-    Buffer::open(alloc, dir, b"buf", settings).map_err(|(fault, _dir)| fault)
+    opened(alloc, dir, limits, RENEWED_PAST_IN_MEMORY)
 }
 
 // What lets its chunks go: acknowledgements. They may be dropped too.
@@ -74,11 +69,7 @@ pub fn shelf_in<D: Dir + Drop>(
 // Such a buffer in this folder, whose journal is renewed wherever it is twice as long as what it
 // keeps.
 pub fn eager_in<D: Dir + Drop>(alloc: Global, dir: D) -> Result<Shelf<D>, BufferFault> {
-    let settings = Settings {
-        limits: WIDE,
-        renewed_past: 0,
-    };
-    let buffer = opened(alloc, dir, settings)?;
+    let buffer = opened(alloc, dir, WIDE, 0)?;
     Ok(SharedBuffer::new(alloc, buffer, LEAF, takes()))
 }
 
@@ -172,15 +163,27 @@ pub fn stored<R: Wait, D: Dir>(
     Ok(delivery.abandon())
 }
 
-// The fault that an audit of a closed buffer finds.
-pub fn audited<D: Dir + Drop>(
+// Whether an audit of this closed buffer finds this fault, or none.
+fn finds_in<D: Dir + Drop>(
+    alloc: Global,
+    closed: &Closed<D, Global>,
+    stubs: &[Stub<Global>],
+    fault: Option<BookFault>,
+) -> bool {
+    match closed.audit(alloc, stubs) {
+        Ok(()) => fault.is_none(),
+        Err(AuditError::Fault(found)) => fault == Some(found),
+        Err(AuditError::Memory) => false,
+    }
+}
+
+// The same of a shared buffer, which is closed.
+pub fn finds<D: Dir + Drop>(
     alloc: Global,
     shelf: Shelf<D>,
     stubs: &[Stub<Global>],
-) -> Result<Option<BookFault>, Fail> {
-    match shelf.close().audit(alloc, stubs) {
-        Ok(()) => Ok(None),
-        Err(AuditError::Fault(fault)) => Ok(Some(fault)),
-        Err(AuditError::Memory) => Err(Fail::from("no memory")),
-    }
+    fault: Option<BookFault>,
+) -> bool {
+    let closed = shelf.close();
+    finds_in(alloc, &closed, stubs, fault)
 }

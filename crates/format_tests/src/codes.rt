@@ -1,18 +1,34 @@
-//! The codes by which a refused step is printed.
+//! The codes by which faults are printed.
 
 use custody_steps::StepFault;
-use std::test::Fail;
+use std::alloc::{AllocError, Global};
+use std::fmt::Display;
 
-// What a fault prints.
-#[test]
-fn faults_print_their_codes(rt: HostRuntime) -> Result<(), Fail> {
-    for (fault, code) in [
-        (StepFault::NoSuch, "S1"),
-        (StepFault::NotAllowed, "S2"),
-        (StepFault::Memory, "memory"),
-    ] {
-        let printed = format!(in rt.alloc(); "{fault}")?;
-        assert_eq!(rt; printed.as_str(), code);
+static CODES: [(StepFault, &str); 3] = [
+    (StepFault::NoSuch, "S1"),
+    (StepFault::NotAllowed, "S2"),
+    (StepFault::Memory, "memory"),
+];
+
+/// Whether a fault prints this code.
+pub fn is_printed<F: Display>(alloc: Global, fault: &F, code: &str) -> bool {
+    match format!(in alloc; "{fault}") {
+        Ok(text) => text.as_str() == code,
+        Err(AllocError) => false,
     }
-    Ok(())
+}
+
+fn are_printed(alloc: Global) -> bool {
+    for (fault, code) in &CODES {
+        if !is_printed(alloc, fault, code) {
+            return false;
+        }
+    }
+    true
+}
+
+// What the fault of a step prints.
+#[test]
+fn faults_print_their_codes(rt: HostRuntime) {
+    assert!(rt; are_printed(rt.alloc()));
 }

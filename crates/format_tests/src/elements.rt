@@ -78,24 +78,35 @@ static TEXTS: [(&str, &str); 30] = [
     ("a '#{x}'", "[]@0{a=#{x}@1,}()"),
 ];
 
-#[test]
-fn elements_of_texts(rt: HostRuntime) -> Result<(), AllocError> {
-    for (text, wanted) in &TEXTS {
-        let found = outcome(rt.alloc(), text.as_bytes())?;
-        assert_eq!(rt; found.as_str(), *wanted);
+// Whether this is the outcome of that text.
+fn comes_to(alloc: Global, text: &str, wanted: &str) -> bool {
+    match outcome(alloc, text.as_bytes()) {
+        Ok(found) => found.as_str() == wanted,
+        Err(AllocError) => false,
     }
-    Ok(())
+}
+
+fn are_outcomes(alloc: Global) -> bool {
+    for (text, wanted) in &TEXTS {
+        if !comes_to(alloc, text, wanted) {
+            return false;
+        }
+    }
+    true
+}
+
+#[test]
+fn elements_of_texts(rt: HostRuntime) {
+    assert!(rt; are_outcomes(rt.alloc()));
 }
 
 static EDGE: &str =
     "# edge relay\n<source>\n  @type forward\n  port 24224\n  bind 0.0.0.0\n  <security>\n    self_hostname edge.example\n    shared_key \"s3cr#t \\\"key\\\"\" # quoted\n  </security>\n</source>\n\n<match app.** sys.{cpu,mem}>\n  @type copy\n  <store>\n    @type file\n    path all\n  </store>\n</match>\n";
 
+static EDGE_ELEMENTS: &str =
+    "source[]@2{@type=forward@3,port=24224@4,bind=0.0.0.0@5,}(security[]@6{self_hostname=edge.example@7,shared_key=s3cr#t \"key\"@8,}())match[app.** sys.{cpu,mem}]@12{@type=copy@13,}(store[]@14{@type=file@15,path=all@16,}())";
+
 #[test]
-fn whole(rt: HostRuntime) -> Result<(), AllocError> {
-    let found = outcome(rt.alloc(), EDGE.as_bytes())?;
-    assert_eq!(rt;
-        found.as_str(),
-        "source[]@2{@type=forward@3,port=24224@4,bind=0.0.0.0@5,}(security[]@6{self_hostname=edge.example@7,shared_key=s3cr#t \"key\"@8,}())match[app.** sys.{cpu,mem}]@12{@type=copy@13,}(store[]@14{@type=file@15,path=all@16,}())"
-    );
-    Ok(())
+fn whole(rt: HostRuntime) {
+    assert!(rt; comes_to(rt.alloc(), EDGE, EDGE_ELEMENTS));
 }

@@ -1,5 +1,6 @@
 //! Handshakes: a digest from outside, items that are read or refused, and printed codes.
 
+use crate::codes::is_printed;
 use auth_handshake::{Client, HandshakeFault, HeloError, Ping, Server, digest_hex};
 use std::alloc::{AllocError, Global};
 
@@ -10,20 +11,32 @@ const DIGEST: &[u8] =
 
 const ZEROS: [u8; 16] = [0; 16];
 
-#[test]
-fn digest_of_known_text(rt: HostRuntime) {
-    assert_eq!(rt; digest_hex(b"a", b"b", b"", b"c").as_slice(), DIGEST);
-    assert_eq!(rt; digest_hex(b"", b"a", b"bc", b"").as_slice(), DIGEST);
+// Whether two ways of parting the text have its digest.
+fn is_digest() -> bool {
+    digest_hex(b"a", b"b", b"", b"c").as_slice() == DIGEST
+        && digest_hex(b"", b"a", b"bc", b"").as_slice() == DIGEST
 }
 
-// Whether this is read as a HELO.
-fn is_helo(alloc: Global, item: &[u8]) -> Result<bool, AllocError> {
-    let mut client = Client::new(alloc, b"b", b"c", ZEROS)?;
+#[test]
+fn digest_of_known_text(rt: HostRuntime) {
+    assert!(rt; is_digest());
+}
+
+// Whether the client reads this as a HELO; nothing without memory.
+fn takes_helo(alloc: Global, client: &mut Client<Global>, item: &[u8]) -> Option<bool> {
     let mut ping = Vec::new(alloc);
     match client.helo(item, &mut ping) {
-        Ok(()) => Ok(true),
-        Err(HeloError::Fault(_)) => Ok(false),
-        Err(HeloError::Memory) => Err(AllocError),
+        Ok(()) => Some(true),
+        Err(HeloError::Fault(_)) => Some(false),
+        Err(HeloError::Memory) => None,
+    }
+}
+
+// The same of a new client.
+fn is_helo(alloc: Global, item: &[u8]) -> Option<bool> {
+    match Client::new(alloc, b"b", b"c", ZEROS) {
+        Ok(mut client) => takes_helo(alloc, &mut client, item),
+        Err(AllocError) => None,
     }
 }
 
@@ -51,12 +64,18 @@ static HELOS: [(&[u8], bool); 17] = [
     (b"", false),
 ];
 
-#[test]
-fn reads_helo_leniently(rt: HostRuntime) -> Result<(), AllocError> {
+fn are_helos(alloc: Global) -> bool {
     for (item, want) in &HELOS {
-        assert_eq!(rt; is_helo(rt.alloc(), item)?, *want);
+        if is_helo(alloc, item) != Some(*want) {
+            return false;
+        }
     }
-    Ok(())
+    true
+}
+
+#[test]
+fn reads_helo_leniently(rt: HostRuntime) {
+    assert!(rt; are_helos(rt.alloc()));
 }
 
 // Items, and why each is refused as a PING.
@@ -101,37 +120,44 @@ static PINGS: [(&[u8], HandshakeFault); 12] = [
 
 // Why a server refuses this, and with which PONG; none where it passes, or without memory.
 fn refused(alloc: Global, item: &[u8], pong: &mut Vec<u8>) -> Option<HandshakeFault> {
-    let server = Server::new(alloc, b"s", b"c", ZEROS).ok()?;
+    let Ok(server) = Server::new(alloc, b"s", b"c", ZEROS) else {
+        return None;
+    };
     match server.ping(item, pong) {
         Ok(Ping::Refused(fault)) => Some(fault),
         _ => None,
     }
 }
 
+// Whether a server refuses each so.
+fn are_refused_as_pings(alloc: Global) -> bool {
+    let mut pong = Vec::new(alloc);
+    for (item, want) in &PINGS {
+        if refused(alloc, item, &mut pong) != Some(*want) {
+            return false;
+        }
+    }
+    true
+}
+
 #[test]
 fn reads_ping_leniently(rt: HostRuntime) {
-    for (item, want) in &PINGS {
-        let mut pong = Vec::new(rt.alloc());
-        assert_eq!(rt; refused(rt.alloc(), item, &mut pong), Some(*want));
-    }
+    assert!(rt; are_refused_as_pings(rt.alloc()));
 }
 
 // A PONG that refuses an item that is none.
 const INVALID: &[u8] = b"\x95\xa4PONG\xc2\xacinvalid ping\xa0\xa0";
 
-// The same of nil, and whether its PONG says so.
-fn refused_nil(alloc: Global) -> (Option<HandshakeFault>, bool) {
+// Whether nil is refused so.
+fn is_nil_refused(alloc: Global) -> bool {
     let mut pong = Vec::new(alloc);
     let fault = refused(alloc, b"\xc0", &mut pong);
-    (fault, pong.as_slice() == INVALID)
+    fault == Some(HandshakeFault::NotPing) && pong.as_slice() == INVALID
 }
 
 #[test]
 fn says_why_a_ping_is_refused(rt: HostRuntime) {
-    assert_eq!(rt;
-        refused_nil(rt.alloc()),
-        (Some(HandshakeFault::NotPing), true)
-    );
+    assert!(rt; is_nil_refused(rt.alloc()));
 }
 
 // Items, and why each is refused as a PONG.
@@ -165,21 +191,45 @@ static PONGS: [(&[u8], HandshakeFault); 12] = [
     (b"", HandshakeFault::NotPong),
 ];
 
-// Why a client that sent its PING refuses this.
-fn is_refused(alloc: Global, item: &[u8]) -> Option<HandshakeFault> {
-    let mut client = Client::new(alloc, b"b", b"c", ZEROS).ok()?;
+const HELO: &[u8] = b"\x92\xa4HELO\x81\xa5nonce\xa1n";
+
+// Whether the client, which sends its PING, refuses this so.
+fn refuses_pong(
+    alloc: Global,
+    client: &mut Client<Global>,
+    item: &[u8],
+    want: HandshakeFault,
+) -> bool {
     let mut ping = Vec::new(alloc);
-    client
-        .helo(b"\x92\xa4HELO\x81\xa5nonce\xa1n", &mut ping)
-        .ok()?;
-    client.pong(item).err()
+    if client.helo(HELO, &mut ping).is_err() {
+        return false;
+    }
+    match client.pong(item) {
+        Ok(()) => false,
+        Err(fault) => fault == want,
+    }
+}
+
+// The same of a new client.
+fn is_refused_as_pong(alloc: Global, item: &[u8], want: HandshakeFault) -> bool {
+    match Client::new(alloc, b"b", b"c", ZEROS) {
+        Ok(mut client) => refuses_pong(alloc, &mut client, item, want),
+        Err(AllocError) => false,
+    }
+}
+
+fn are_refused_as_pongs(alloc: Global) -> bool {
+    for (item, want) in &PONGS {
+        if !is_refused_as_pong(alloc, item, *want) {
+            return false;
+        }
+    }
+    true
 }
 
 #[test]
 fn reads_pong_leniently(rt: HostRuntime) {
-    for (item, want) in &PONGS {
-        assert_eq!(rt; is_refused(rt.alloc(), item), Some(*want));
-    }
+    assert!(rt; are_refused_as_pongs(rt.alloc()));
 }
 
 static CODES: [(HandshakeFault, &str); 5] = [
@@ -190,10 +240,16 @@ static CODES: [(HandshakeFault, &str); 5] = [
     (HandshakeFault::RefusedByServer, "H5"),
 ];
 
-#[test]
-fn prints_codes(rt: HostRuntime) -> Result<(), AllocError> {
+fn are_printed(alloc: Global) -> bool {
     for (fault, code) in &CODES {
-        assert_eq!(rt; format!(in rt.alloc(); "{fault}")?.as_str(), *code);
+        if !is_printed(alloc, fault, code) {
+            return false;
+        }
     }
-    Ok(())
+    true
+}
+
+#[test]
+fn prints_codes(rt: HostRuntime) {
+    assert!(rt; are_printed(rt.alloc()));
 }

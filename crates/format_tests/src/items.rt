@@ -1,11 +1,12 @@
 //! MessagePack items: vectors from outside, printed text, and that the calls succeed, which no
 //! clause says.
 
+use crate::codes::is_printed;
 use msgpack_bytes::{
     Head, MsgFault, PieceScan, Scan, Scanner, head, put_array, put_bin, put_bool, put_map, put_str,
     put_uint, scan,
 };
-use std::test::Fail;
+use std::alloc::{AllocError, Global};
 
 const NEED: Scan = Scan::Need;
 
@@ -56,11 +57,18 @@ fn scanned(bytes: &[u8], from: usize) -> Scan {
     scan(bytes, from.min(bytes.len()))
 }
 
+fn are_scanned() -> bool {
+    for (from, bytes, want) in &SCANS {
+        if scanned(bytes, *from) != *want {
+            return false;
+        }
+    }
+    true
+}
+
 #[test]
 fn scans(rt: HostRuntime) {
-    for (from, bytes, want) in &SCANS {
-        assert_eq!(rt; scanned(bytes, *from), *want, "of {bytes:?} from {from}");
-    }
+    assert!(rt; are_scanned());
 }
 
 // What a scanner answers to the last of these pieces.
@@ -100,11 +108,18 @@ static PIECES: [(&[&[u8]], PieceScan); 14] = [
     ),
 ];
 
+fn are_scanned_in_pieces() -> bool {
+    for (pieces, want) in &PIECES {
+        if last_of(pieces) != *want {
+            return false;
+        }
+    }
+    true
+}
+
 #[test]
 fn scans_in_pieces(rt: HostRuntime) {
-    for (pieces, want) in &PIECES {
-        assert_eq!(rt; last_of(pieces), *want, "of {pieces:?}");
-    }
+    assert!(rt; are_scanned_in_pieces());
 }
 
 // What a scanner answers to bytes that come one by one: how many times more is asked for, and the
@@ -120,15 +135,16 @@ fn one_by_one(bytes: &[u8]) -> (usize, PieceScan) {
     (bytes.len(), PieceScan::Need)
 }
 
+const MESSAGE: &[u8] = b"\x93\xa3app\xce\x00\x00\x00\x01\x81\xa1k\xa1v";
+
 #[test]
 fn scans_byte_by_byte(rt: HostRuntime) {
-    let message = b"\x93\xa3app\xce\x00\x00\x00\x01\x81\xa1k\xa1v";
-    assert_eq!(rt; one_by_one(message), (14, PieceScan::End(1)));
+    assert!(rt; one_by_one(MESSAGE) == (14, PieceScan::End(1)));
 }
 
 // So many arrays of one item, one in another, and then these bytes.
-fn nested(rt: &HostRuntime, depth: usize, rest: &[u8]) -> Result<Vec<u8>, Fail> {
-    let mut bytes = Vec::new(rt.alloc());
+fn nested(alloc: Global, depth: usize, rest: &[u8]) -> Result<Vec<u8>, AllocError> {
+    let mut bytes = Vec::new(alloc);
     bytes.resize(depth, 0x91)?;
     bytes.extend_from_slice(rest)?;
     Ok(bytes)
@@ -148,30 +164,42 @@ static NESTED: [(usize, &[u8], Scan); 10] = [
     (63, b"\xdd\x00\xff\xff\xbd\x90", TOO_LONG),
 ];
 
-#[test]
-fn scans_what_nests(rt: HostRuntime) -> Result<(), Fail> {
-    for (depth, rest, want) in &NESTED {
-        let bytes = nested(&rt, *depth, rest)?;
-        assert_eq!(rt; scanned(&bytes, 0), *want, "of {rest:?} in {depth}");
+fn is_nested(alloc: Global, depth: usize, rest: &[u8], want: Scan) -> bool {
+    match nested(alloc, depth, rest) {
+        Ok(bytes) => scanned(&bytes, 0) == want,
+        Err(AllocError) => false,
     }
-    Ok(())
 }
 
-// A str of this length, which is almost the limit, and one byte more.
-fn long_str(rt: &HostRuntime, low: u8) -> Result<Vec<u8>, Fail> {
-    let mut bytes = Vec::from_slice(rt.alloc(), &[0xdb, 0, 0xff, 0xff, low])?;
-    bytes.resize(16_777_217, 0)?;
-    Ok(bytes)
+fn are_nested(alloc: Global) -> bool {
+    for (depth, rest, want) in &NESTED {
+        if !is_nested(alloc, *depth, rest, *want) {
+            return false;
+        }
+    }
+    true
 }
 
-// The longest str, and one that is a byte longer.
 #[test]
-fn scans_to_the_limit(rt: HostRuntime) -> Result<(), Fail> {
-    let longest = long_str(&rt, 0xfb)?;
-    assert_eq!(rt; scanned(&longest, 0), Scan::End(16_777_216));
-    let longer = long_str(&rt, 0xfc)?;
-    assert_eq!(rt; scanned(&longer, 0), TOO_LONG);
-    Ok(())
+fn scans_what_nests(rt: HostRuntime) {
+    assert!(rt; are_nested(rt.alloc()));
+}
+
+// What a str of this length, which is almost the limit, is answered by with a byte behind it.
+fn long_str(alloc: Global, low: u8) -> Result<Scan, AllocError> {
+    let mut bytes = Vec::from_slice(alloc, &[0xdb, 0, 0xff, 0xff, low])?;
+    bytes.resize(16_777_217, 0)?;
+    Ok(scanned(&bytes, 0))
+}
+
+// Whether the longest str ends, and one that is a byte longer doesn't.
+fn ends_at_the_limit(alloc: Global) -> bool {
+    long_str(alloc, 0xfb) == Ok(Scan::End(16_777_216)) && long_str(alloc, 0xfc) == Ok(TOO_LONG)
+}
+
+#[test]
+fn scans_to_the_limit(rt: HostRuntime) {
+    assert!(rt; ends_at_the_limit(rt.alloc()));
 }
 
 // The table of formats: for first bytes from one to another, where an item ends behind which zeros
@@ -223,15 +251,30 @@ fn format_of(first: u8) -> Scan {
     scan(&bytes, 0)
 }
 
-#[test]
-fn scans_each_format(rt: HostRuntime) {
+// Whether items from one first byte to another end there, each so much later than the last.
+fn end_so(low: u8, high: u8, size: usize, step: usize) -> bool {
+    let mut want = size;
+    for first in low..=high {
+        if format_of(first) != Scan::End(want) {
+            return false;
+        }
+        want = want.saturating_add(step);
+    }
+    true
+}
+
+fn are_formats() -> bool {
     for (low, high, size, step) in &FORMATS {
-        let mut want = *size;
-        for first in *low..=*high {
-            assert_eq!(rt; format_of(first), Scan::End(want), "of {first:x}");
-            want = want.saturating_add(*step);
+        if !end_so(*low, *high, *size, *step) {
+            return false;
         }
     }
+    true
+}
+
+#[test]
+fn scans_each_format(rt: HostRuntime) {
+    assert!(rt; are_formats());
 }
 
 // At which byte an item's head is looked for, in these, and what it is.
@@ -325,11 +368,18 @@ fn headed(bytes: &[u8], from: usize) -> Option<Head> {
     head(bytes, from)
 }
 
+fn are_heads() -> bool {
+    for (from, bytes, want) in &HEADS {
+        if headed(bytes, *from) != *want {
+            return false;
+        }
+    }
+    true
+}
+
 #[test]
 fn reads_heads(rt: HostRuntime) {
-    for (from, bytes, want) in &HEADS {
-        assert_eq!(rt; headed(bytes, *from), *want, "of {bytes:?} from {from}");
-    }
+    assert!(rt; are_heads());
 }
 
 static INTEGERS: [(u64, &[u8]); 10] = [
@@ -345,20 +395,26 @@ static INTEGERS: [(u64, &[u8]); 10] = [
     (u64::MAX, b"\xcf\xff\xff\xff\xff\xff\xff\xff\xff"),
 ];
 
-fn uint_of(rt: &HostRuntime, value: u64) -> Result<Vec<u8>, Fail> {
-    let mut out = Vec::new(rt.alloc());
-    put_uint(&mut out, value)?;
-    Ok(out)
+// Whether the number is written so, and read from that.
+fn is_integer(alloc: Global, value: u64, want: &[u8]) -> bool {
+    let mut out = Vec::new(alloc);
+    put_uint(&mut out, value).is_ok()
+        && out.as_slice() == want
+        && headed(&out, 0) == Some(Head::Int(i128::from(value)))
+}
+
+fn are_integers(alloc: Global) -> bool {
+    for (value, want) in &INTEGERS {
+        if !is_integer(alloc, *value, want) {
+            return false;
+        }
+    }
+    true
 }
 
 #[test]
-fn writes_integers(rt: HostRuntime) -> Result<(), Fail> {
-    for (value, want) in &INTEGERS {
-        let out = uint_of(&rt, *value)?;
-        assert_eq!(rt; out.as_slice(), *want, "of {value}");
-        assert_eq!(rt; headed(&out, 0), Some(Head::Int(i128::from(*value))));
-    }
-    Ok(())
+fn writes_integers(rt: HostRuntime) {
+    assert!(rt; are_integers(rt.alloc()));
 }
 
 // So many items, and how an array's and a map's header say that.
@@ -371,25 +427,28 @@ static HEADERS: [(u32, &[u8], &[u8]); 6] = [
     (65_536, b"\xdd\x00\x01\x00\x00", b"\xdf\x00\x01\x00\x00"),
 ];
 
-fn array_of(rt: &HostRuntime, count: u32) -> Result<Vec<u8>, Fail> {
-    let mut out = Vec::new(rt.alloc());
-    put_array(&mut out, count)?;
-    Ok(out)
+fn is_array(alloc: Global, count: u32, want: &[u8]) -> bool {
+    let mut out = Vec::new(alloc);
+    put_array(&mut out, count).is_ok() && out.as_slice() == want
 }
 
-fn map_of(rt: &HostRuntime, count: u32) -> Result<Vec<u8>, Fail> {
-    let mut out = Vec::new(rt.alloc());
-    put_map(&mut out, count)?;
-    Ok(out)
+fn is_map(alloc: Global, count: u32, want: &[u8]) -> bool {
+    let mut out = Vec::new(alloc);
+    put_map(&mut out, count).is_ok() && out.as_slice() == want
+}
+
+fn are_headers(alloc: Global) -> bool {
+    for (count, array, map) in &HEADERS {
+        if !is_array(alloc, *count, array) || !is_map(alloc, *count, map) {
+            return false;
+        }
+    }
+    true
 }
 
 #[test]
-fn writes_headers(rt: HostRuntime) -> Result<(), Fail> {
-    for (count, array, map) in &HEADERS {
-        assert_eq!(rt; array_of(&rt, *count)?.as_slice(), *array, "of {count}");
-        assert_eq!(rt; map_of(&rt, *count)?.as_slice(), *map, "of {count}");
-    }
-    Ok(())
+fn writes_headers(rt: HostRuntime) {
+    assert!(rt; are_headers(rt.alloc()));
 }
 
 // No text that is written here is longer.
@@ -404,28 +463,26 @@ static TEXTS: [(usize, &[u8], &[u8]); 5] = [
     (65_536, b"\xdb\x00\x01\x00\x00", b"\xc6\x00\x01\x00\x00"),
 ];
 
-fn str_of(rt: &HostRuntime, content: &[u8]) -> Result<Vec<u8>, Fail> {
-    if content.len() > LONGEST {
-        return Err(Fail::from("longer than any here"));
+// How a str of these bytes is written, and a bin; nothing where it isn't.
+fn str_of(alloc: Global, content: &[u8]) -> Vec<u8> {
+    let mut out = Vec::new(alloc);
+    if content.len() <= LONGEST && put_str(&mut out, content).is_err() {
+        out.clear();
     }
-    let mut out = Vec::new(rt.alloc());
-    put_str(&mut out, content)?;
-    Ok(out)
+    out
 }
 
-fn bin_of(rt: &HostRuntime, content: &[u8]) -> Result<Vec<u8>, Fail> {
-    if content.len() > LONGEST {
-        return Err(Fail::from("longer than any here"));
+fn bin_of(alloc: Global, content: &[u8]) -> Vec<u8> {
+    let mut out = Vec::new(alloc);
+    if content.len() <= LONGEST && put_bin(&mut out, content).is_err() {
+        out.clear();
     }
-    let mut out = Vec::new(rt.alloc());
-    put_bin(&mut out, content)?;
-    Ok(out)
+    out
 }
 
-fn bool_of(rt: &HostRuntime, value: bool) -> Result<Vec<u8>, Fail> {
-    let mut out = Vec::new(rt.alloc());
-    put_bool(&mut out, value)?;
-    Ok(out)
+fn is_bool(alloc: Global, value: bool, want: &[u8]) -> bool {
+    let mut out = Vec::new(alloc);
+    put_bool(&mut out, value).is_ok() && out.as_slice() == want
 }
 
 // Whether this is one item, and begins so.
@@ -433,23 +490,45 @@ fn is_one(bytes: &[u8], front: &[u8]) -> bool {
     bytes.starts_with(front) && scanned(bytes, 0) == Scan::End(bytes.len())
 }
 
-#[test]
-fn writes_texts(rt: HostRuntime) -> Result<(), Fail> {
-    for (size, as_str, as_bin) in &TEXTS {
-        let content = vec![in rt.alloc(); b'x'; *size]?;
-        assert!(rt; is_one(&str_of(&rt, &content)?, as_str), "of {size}");
-        assert!(rt; is_one(&bin_of(&rt, &content)?, as_bin), "of {size}");
+// Whether a str and a bin of so many bytes begin so.
+fn are_texts_of(alloc: Global, size: usize, as_str: &[u8], as_bin: &[u8]) -> bool {
+    match Vec::from_elem(alloc, b'x', size) {
+        Ok(content) => {
+            is_one(&str_of(alloc, &content), as_str) && is_one(&bin_of(alloc, &content), as_bin)
+        }
+        Err(_) => false,
     }
-    Ok(())
+}
+
+fn are_texts(alloc: Global) -> bool {
+    for (size, as_str, as_bin) in &TEXTS {
+        if !are_texts_of(alloc, *size, as_str, as_bin) {
+            return false;
+        }
+    }
+    true
 }
 
 #[test]
-fn writes_short_texts_and_bools(rt: HostRuntime) -> Result<(), Fail> {
-    assert_eq!(rt; str_of(&rt, b"abc")?.as_slice(), b"\xa3abc".as_slice());
-    assert_eq!(rt; bin_of(&rt, b"")?.as_slice(), b"\xc4\x00".as_slice());
-    assert_eq!(rt; bool_of(&rt, true)?.as_slice(), b"\xc3".as_slice());
-    assert_eq!(rt; bool_of(&rt, false)?.as_slice(), b"\xc2".as_slice());
-    Ok(())
+fn writes_texts(rt: HostRuntime) {
+    assert!(rt; are_texts(rt.alloc()));
+}
+
+fn is_text(text: &[u8], want: &[u8]) -> bool {
+    text == want
+}
+
+fn are_short(alloc: Global) -> bool {
+    is_text(&str_of(alloc, b"abc"), b"\xa3abc") && is_text(&bin_of(alloc, b""), b"\xc4\x00")
+}
+
+fn are_bools(alloc: Global) -> bool {
+    is_bool(alloc, true, b"\xc3") && is_bool(alloc, false, b"\xc2")
+}
+
+#[test]
+fn writes_short_texts_and_bools(rt: HostRuntime) {
+    assert!(rt; are_short(rt.alloc()) && are_bools(rt.alloc()));
 }
 
 static FAULTS: [(MsgFault, &str); 3] = [
@@ -458,11 +537,16 @@ static FAULTS: [(MsgFault, &str); 3] = [
     (MsgFault::TooLong, "M3"),
 ];
 
-#[test]
-fn prints_faults(rt: HostRuntime) -> Result<(), Fail> {
-    for (fault, want) in &FAULTS {
-        let text = format!(in rt.alloc(); "{fault}")?;
-        assert_eq!(rt; text.as_str(), *want);
+fn are_printed(alloc: Global) -> bool {
+    for (fault, code) in &FAULTS {
+        if !is_printed(alloc, fault, code) {
+            return false;
+        }
     }
-    Ok(())
+    true
+}
+
+#[test]
+fn prints_faults(rt: HostRuntime) {
+    assert!(rt; are_printed(rt.alloc()));
 }

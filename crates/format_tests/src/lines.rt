@@ -2,15 +2,27 @@
 
 use relay_notices::{Closing, Ending, Failure, Notice, Pending, Refusal, line_of};
 use std::alloc::Global;
-use std::test::Fail;
 
-// A line that leaves none out, of a place `P`, when 1970 begins.
-fn text_of(alloc: Global, notice: Notice) -> Result<String, Fail> {
+// What each line begins with of a place `P` when 1970 begins.
+const BEGINNING: &str = "1970-01-01T00:00:00Z P: ";
+
+// Whether a line that leaves none out says this of such a place.
+fn says(alloc: Global, notice: Notice, text: &str) -> bool {
     let pending = Pending {
         notice,
         left_out: 0,
     };
-    Ok(line_of(alloc, 0, "P", &pending)?)
+    match line_of(alloc, 0, "P", &pending) {
+        Ok(line) => is_line(line.as_str(), text),
+        Err(_) => false,
+    }
+}
+
+fn is_line(line: &str, text: &str) -> bool {
+    let Some(said) = line.strip_prefix(BEGINNING) else {
+        return false;
+    };
+    said.strip_suffix("\n") == Some(text)
 }
 
 static TEXTS: [(Notice, &str); 16] = [
@@ -77,15 +89,19 @@ static TEXTS: [(Notice, &str); 16] = [
     ),
 ];
 
+fn all_say(alloc: Global) -> bool {
+    for (notice, text) in &TEXTS {
+        if !says(alloc, *notice, text) {
+            return false;
+        }
+    }
+    true
+}
+
 // What each notice says.
 #[test]
-fn notices_say_what_they_are(rt: HostRuntime) -> Result<(), Fail> {
-    for (notice, says) in &TEXTS {
-        let line = text_of(rt.alloc(), *notice)?;
-        let told = format!(in rt.alloc(); "1970-01-01T00:00:00Z P: {says}\n")?;
-        assert_eq!(rt; line.as_str(), told.as_str());
-    }
-    Ok(())
+fn notices_say_what_they_are(rt: HostRuntime) {
+    assert!(rt; all_say(rt.alloc()));
 }
 
 static TIMES: [(u64, &str, u64, &str); 5] = [
@@ -123,16 +139,29 @@ static TIMES: [(u64, &str, u64, &str); 5] = [
     ),
 ];
 
+// Whether the line of a place that works again, told so, is this.
+fn is_told(alloc: Global, second: u64, name: &str, left_out: u64, text: &str) -> bool {
+    let pending = Pending {
+        notice: Notice::Works,
+        left_out,
+    };
+    match line_of(alloc, second, name, &pending) {
+        Ok(line) => line.as_str() == text,
+        Err(_) => false,
+    }
+}
+
+fn are_told(alloc: Global) -> bool {
+    for (second, name, left_out, text) in &TIMES {
+        if !is_told(alloc, *second, name, *left_out, text) {
+            return false;
+        }
+    }
+    true
+}
+
 // The time, the name, and how many are left out.
 #[test]
-fn lines_have_time_and_place(rt: HostRuntime) -> Result<(), Fail> {
-    for (second, name, left_out, text) in &TIMES {
-        let pending = Pending {
-            notice: Notice::Works,
-            left_out: *left_out,
-        };
-        let line = line_of(rt.alloc(), *second, name, &pending)?;
-        assert_eq!(rt; line.as_str(), *text);
-    }
-    Ok(())
+fn lines_have_time_and_place(rt: HostRuntime) {
+    assert!(rt; are_told(rt.alloc()));
 }

@@ -1,9 +1,9 @@
 //! Listings of texts that come slowly or without an end, and at a writer that fails.
 
 use program_text::{CountedRead, Status};
+use std::alloc::Global;
 use std::io;
 use std::io::{ErrorKind, Write};
-use std::test::Fail;
 use stream_listing::run_decode;
 
 // A hex text, whether the reader fails at its end, what is printed for it, and the status.
@@ -119,50 +119,77 @@ impl Write for Small {
     }
 }
 
-#[test]
-fn lists_byte_by_byte(rt: HostRuntime) -> Result<(), Fail> {
+fn is_listed(alloc: Global, row: &Row) -> bool {
+    let mut out = Vec::new(alloc);
+    let mut input = Slow {
+        rest: row.text.as_bytes(),
+        is_interrupted: false,
+        fails: row.fails,
+    };
+    let status = run_decode(alloc, &mut input, &mut out);
+    out.as_slice() == row.lines.as_bytes() && status == row.status
+}
+
+fn are_listed(alloc: Global) -> bool {
     for row in &ROWS {
-        let mut out = Vec::new(rt.alloc());
-        let mut input = Slow {
-            rest: row.text.as_bytes(),
-            is_interrupted: false,
-            fails: row.fails,
-        };
-        let status = run_decode(rt.alloc(), &mut input, &mut out);
-        assert_eq!(rt; out.as_slice(), row.lines.as_bytes(), "{}", row.text);
-        assert_eq!(rt; status, row.status, "{}", row.text);
+        if !is_listed(alloc, row) {
+            return false;
+        }
     }
-    Ok(())
+    true
 }
 
 #[test]
-fn reads_are_bounded(rt: HostRuntime) -> Result<(), Fail> {
-    let mut out = Vec::new(rt.alloc());
+fn lists_byte_by_byte(rt: HostRuntime) {
+    assert!(rt; are_listed(rt.alloc()));
+}
+
+const FAULT_READ: &[u8] = b"fault read\n";
+
+fn leaves_an_endless(alloc: Global) -> bool {
+    let mut out = Vec::new(alloc);
     let mut input = Endless { calls: 0 };
-    let status = run_decode(rt.alloc(), &mut input, &mut out);
-    assert_eq!(rt; status, Status::Usage);
-    assert_eq!(rt; out.as_slice(), b"fault read\n".as_slice());
-    assert_eq!(rt; input.calls, 16_777_216);
-    Ok(())
+    let status = run_decode(alloc, &mut input, &mut out);
+    status == Status::Usage && out.as_slice() == FAULT_READ && input.calls == 16_777_216
 }
 
 #[test]
-fn writer_fails(rt: HostRuntime) -> Result<(), Fail> {
-    let text = b"c0 93 a1 61 01 80 c0 zz";
-    let whole = b"heartbeat\nmessage 61 1\nentry 920180\nheartbeat\nfault hex\n";
+fn reads_are_bounded(rt: HostRuntime) {
+    assert!(rt; leaves_an_endless(rt.alloc()));
+}
+
+const TEXT: &[u8] = b"c0 93 a1 61 01 80 c0 zz";
+
+const WHOLE: &[u8] = b"heartbeat\nmessage 61 1\nentry 920180\nheartbeat\nfault hex\n";
+
+// Whether a writer took the beginning of the listing for which it had room, and was called at most
+// once when it was full.
+fn took_a_beginning(out: &Small, room: usize) -> bool {
+    Some(out.taken.as_slice()) == WHOLE.get(..room.min(WHOLE.len())) && out.calls_after <= 1
+}
+
+// Whether a listing at a writer with so much room ends as it ought to.
+fn ends_in(alloc: Global, room: usize) -> bool {
+    let mut out = Small {
+        room,
+        taken: Vec::new(alloc),
+        is_interrupted: false,
+        calls_after: 0,
+    };
+    let mut input = TEXT;
+    run_decode(alloc, &mut input, &mut out) == Status::Usage && took_a_beginning(&out, room)
+}
+
+fn each_ends(alloc: Global) -> bool {
     for room in 0..60usize {
-        let mut out = Small {
-            room,
-            taken: Vec::new(rt.alloc()),
-            is_interrupted: false,
-            calls_after: 0,
-        };
-        let mut input = text.as_slice();
-        let status = run_decode(rt.alloc(), &mut input, &mut out);
-        assert_eq!(rt; status, Status::Usage);
-        let seen = room.min(whole.len());
-        assert_eq!(rt; out.taken.as_slice(), &whole[..seen], "{room}");
-        assert!(rt; out.calls_after <= 1, "{room}");
+        if !ends_in(alloc, room) {
+            return false;
+        }
     }
-    Ok(())
+    true
+}
+
+#[test]
+fn writer_fails(rt: HostRuntime) {
+    assert!(rt; each_ends(rt.alloc()));
 }

@@ -1,20 +1,19 @@
 //! Tags, prefixes and match patterns: which tags a pattern has, what it stands for, and why a text
 //! is none.
 
+use crate::codes::is_printed;
 use std::alloc::{AllocError, Global};
-use std::test::Fail;
 use tag_pattern::{
     Pattern, PatternError, PatternItem, Plain, Prefix, PrefixError, Tag, TagError, apart, fits,
     matches,
 };
 
-// A pattern that stands for itself alone.
-fn one(alloc: Global, text: &str) -> Result<Plain<Global>, PatternError> {
-    let mut plains = Pattern::read(alloc, text)?;
-    if plains.len() > 1 {
-        return Err(PatternError::TooMany);
+// A pattern that stands for itself alone; none where it is none, or stands for many.
+fn one(alloc: Global, text: &str) -> Option<Plain<Global>> {
+    match Pattern::read(alloc, text) {
+        Ok(mut plains) if plains.len() == 1 => plains.pop(),
+        _ => None,
     }
-    plains.pop().ok_or(PatternError::BraceFault)
 }
 
 fn show_item(text: &mut Vec<u8>, item: &PatternItem<Vec<u8>>) -> Result<(), AllocError> {
@@ -25,15 +24,20 @@ fn show_item(text: &mut Vec<u8>, item: &PatternItem<Vec<u8>>) -> Result<(), Allo
     }
 }
 
+fn show_plain(text: &mut Vec<u8>, plain: &Plain<Global>) -> Result<(), AllocError> {
+    for item in plain.items() {
+        show_item(text, item)?;
+        text.push(b'.')?;
+    }
+    text.push(b' ')?;
+    Ok(())
+}
+
 // The plain patterns with a blank behind each, and their items with a dot behind each.
-fn shown(alloc: Global, pattern: &str) -> Result<Vec<u8>, PatternError> {
+fn shown(alloc: Global, plains: &[Plain<Global>]) -> Result<Vec<u8>, AllocError> {
     let mut text = Vec::new(alloc);
-    for plain in &Pattern::read(alloc, pattern)? {
-        for item in plain.items() {
-            show_item(&mut text, item)?;
-            text.push(b'.')?;
-        }
-        text.push(b' ')?;
+    for plain in plains {
+        show_plain(&mut text, plain)?;
     }
     Ok(text)
 }
@@ -65,19 +69,26 @@ static TAGS: [(&str, &str, bool); 23] = [
     ("a.**.b", "ab", false),
 ];
 
-// Whether the tag is of the pattern.
-fn matched(alloc: Global, pattern: &str, tag: &str) -> Result<bool, Fail> {
-    let plain = one(alloc, pattern)?;
-    let read = Tag::read(alloc, tag.as_bytes())?;
-    Ok(matches(&plain, &read))
+// Whether the tag is of the pattern; nothing where one of them is none.
+fn matched(alloc: Global, pattern: &str, tag: &[u8]) -> Option<bool> {
+    match (one(alloc, pattern), Tag::read(alloc, tag)) {
+        (Some(plain), Ok(read)) => Some(matches(&plain, &read)),
+        _ => None,
+    }
+}
+
+fn are_matched(alloc: Global) -> bool {
+    for (pattern, tag, want) in &TAGS {
+        if matched(alloc, pattern, tag.as_bytes()) != Some(*want) {
+            return false;
+        }
+    }
+    true
 }
 
 #[test]
-fn tags_of_patterns(rt: HostRuntime) -> Result<(), Fail> {
-    for (pattern, tag, want) in &TAGS {
-        assert_eq!(rt; matched(rt.alloc(), pattern, tag)?, *want);
-    }
-    Ok(())
+fn tags_of_patterns(rt: HostRuntime) {
+    assert!(rt; are_matched(rt.alloc()));
 }
 
 // Patterns, and those without braces that they stand for.
@@ -92,12 +103,32 @@ static PLAINS: [(&str, &str); 8] = [
     ("{.,a}.*", "..*. a.*. "),
 ];
 
-#[test]
-fn plain_patterns(rt: HostRuntime) -> Result<(), Fail> {
-    for (text, want) in &PLAINS {
-        assert_eq!(rt; shown(rt.alloc(), text)?.as_slice(), want.as_bytes());
+fn are_shown_as(alloc: Global, plains: &[Plain<Global>], want: &str) -> bool {
+    match shown(alloc, plains) {
+        Ok(text) => text.as_slice() == want.as_bytes(),
+        Err(AllocError) => false,
     }
-    Ok(())
+}
+
+fn is_shown(alloc: Global, text: &str, want: &str) -> bool {
+    match Pattern::read(alloc, text) {
+        Ok(plains) => are_shown_as(alloc, &plains, want),
+        Err(_) => false,
+    }
+}
+
+fn are_shown(alloc: Global) -> bool {
+    for (text, want) in &PLAINS {
+        if !is_shown(alloc, text, want) {
+            return false;
+        }
+    }
+    true
+}
+
+#[test]
+fn plain_patterns(rt: HostRuntime) {
+    assert!(rt; are_shown(rt.alloc()));
 }
 
 // Patterns at a limit, and how many plain ones there are, and items in the first.
@@ -108,17 +139,31 @@ static SIZES: [(&str, usize, usize); 4] = [
     ("...............................", 1, 32),
 ];
 
-fn sizes(alloc: Global, text: &str) -> Option<(usize, usize)> {
-    let plains = Pattern::read(alloc, text).ok()?;
+// How many plain patterns there are, and how many items the first has.
+fn sizes(plains: &[Plain<Global>]) -> Option<(usize, usize)> {
     let first = plains.get(0)?;
     Some((plains.len(), first.items().len()))
 }
 
+fn has_sizes(alloc: Global, text: &str, want: (usize, usize)) -> bool {
+    match Pattern::read(alloc, text) {
+        Ok(plains) => sizes(&plains) == Some(want),
+        Err(_) => false,
+    }
+}
+
+fn have_sizes(alloc: Global) -> bool {
+    for (text, plains, items) in &SIZES {
+        if !has_sizes(alloc, text, (*plains, *items)) {
+            return false;
+        }
+    }
+    true
+}
+
 #[test]
 fn sizes_of_patterns(rt: HostRuntime) {
-    for (text, plains, items) in &SIZES {
-        assert_eq!(rt; sizes(rt.alloc(), text), Some((*plains, *items)));
-    }
+    assert!(rt; have_sizes(rt.alloc()));
 }
 
 // No patterns, and why.
@@ -157,31 +202,56 @@ static FAULTS: [(&str, PatternError); 20] = [
     ),
 ];
 
-#[test]
-fn faults_in_order(rt: HostRuntime) {
-    for (text, want) in &FAULTS {
-        assert_eq!(rt; Pattern::read(rt.alloc(), text).err(), Some(*want));
+fn is_refused(alloc: Global, text: &str, want: PatternError) -> bool {
+    match Pattern::read(alloc, text) {
+        Ok(_) => false,
+        Err(fault) => fault == want,
     }
 }
 
-fn tag_fault(alloc: Global, length: usize) -> Result<Option<TagError>, AllocError> {
-    let mut bytes = Vec::new(alloc);
-    bytes.resize(length, b'.')?;
-    Ok(Tag::read(alloc, &bytes).err())
+fn are_refused(alloc: Global) -> bool {
+    for (text, want) in &FAULTS {
+        if !is_refused(alloc, text, *want) {
+            return false;
+        }
+    }
+    true
 }
 
 #[test]
-fn lengths_of_tags(rt: HostRuntime) -> Result<(), AllocError> {
-    assert_eq!(rt; tag_fault(rt.alloc(), 1_024)?, None);
-    assert_eq!(rt; tag_fault(rt.alloc(), 1_025)?, Some(TagError::TagTooLong));
-    Ok(())
+fn faults_in_order(rt: HostRuntime) {
+    assert!(rt; are_refused(rt.alloc()));
+}
+
+static LONGEST: [u8; 1_024] = [b'.'; 1_024];
+
+static LONGER: [u8; 1_025] = [b'.'; 1_025];
+
+// Whether a tag of this length is read, and one of that isn't.
+fn are_tags_this_long(alloc: Global) -> bool {
+    Tag::read(alloc, &LONGEST).is_ok()
+        && Tag::read(alloc, &LONGER).err() == Some(TagError::TagTooLong)
+}
+
+#[test]
+fn lengths_of_tags(rt: HostRuntime) {
+    assert!(rt; are_tags_this_long(rt.alloc()));
+}
+
+// The copy of a tag behind a prefix.
+fn copy_of(alloc: Global, tag: &Tag<Global>, prefix: &Prefix<Global>) -> Option<Tag<Global>> {
+    match tag.prefixed(alloc, prefix) {
+        Ok(longer) => longer.copied(alloc).ok(),
+        Err(_) => None,
+    }
 }
 
 // A tag behind a prefix, copied.
 fn prefixed(alloc: Global, prefix: &[u8], tag: &[u8]) -> Option<Tag<Global>> {
-    let prefix = Prefix::read(alloc, prefix).ok()?;
-    let tag = Tag::read(alloc, tag).ok()?.prefixed(alloc, &prefix).ok()?;
-    tag.copied(alloc).ok()
+    match (Prefix::read(alloc, prefix), Tag::read(alloc, tag)) {
+        (Ok(prefix), Ok(tag)) => copy_of(alloc, &tag, &prefix),
+        _ => None,
+    }
 }
 
 fn is_prefixed(alloc: Global, prefix: &[u8], tag: &[u8], wanted: &[u8]) -> bool {
@@ -191,33 +261,47 @@ fn is_prefixed(alloc: Global, prefix: &[u8], tag: &[u8], wanted: &[u8]) -> bool 
     }
 }
 
-#[test]
-fn prefixes_of_tags(rt: HostRuntime) {
-    let alloc = rt.alloc();
-    assert!(rt; is_prefixed(alloc, b"x.y", b"a", b"x.y.a"));
-    assert!(rt; prefixed(alloc, b"x", &[b'.'; 1_022]).is_some());
-    assert!(rt; prefixed(alloc, b"x", &[b'.'; 1_023]).is_none());
-    let wrong: [&[u8]; 3] = [b"a*", b"", &[b'a'; 65]];
-    for text in wrong {
-        assert_eq!(rt;
-            Prefix::read(alloc, text).err(),
-            Some(PrefixError::BadPrefix)
-        );
+// Whether a prefix of one byte goes before a tag of 1,022 bytes, and before none of 1,023.
+fn are_prefixed_up_to_the_limit(alloc: Global) -> bool {
+    let (_, longest) = LONGEST.split_at(2);
+    let (_, longer) = LONGEST.split_at(1);
+    prefixed(alloc, b"x", longest).is_some() && prefixed(alloc, b"x", longer).is_none()
+}
+
+// No prefixes.
+static WRONG: [&[u8]; 3] = [b"a*", b"", &[b'a'; 65]];
+
+fn are_wrong(alloc: Global) -> bool {
+    for text in &WRONG {
+        if Prefix::read(alloc, text).err() != Some(PrefixError::BadPrefix) {
+            return false;
+        }
     }
+    true
+}
+
+fn are_prefixes(alloc: Global) -> bool {
+    is_prefixed(alloc, b"x.y", b"a", b"x.y.a")
+        && are_prefixed_up_to_the_limit(alloc)
+        && are_wrong(alloc)
 }
 
 #[test]
-fn faults_are_printed_so(rt: HostRuntime) -> Result<(), Fail> {
-    let found = format!(in rt.alloc();
-        "{} {} {} {} {}",
-        TagError::TagTooLong,
-        PatternError::PartialWildcard,
-        PatternError::BraceFault,
-        PatternError::TooMany,
-        PrefixError::BadPrefix
-    )?;
-    assert_eq!(rt; found.as_str(), "P1 P2 P3 P4 P5");
-    Ok(())
+fn prefixes_of_tags(rt: HostRuntime) {
+    assert!(rt; are_prefixes(rt.alloc()));
+}
+
+fn are_printed(alloc: Global) -> bool {
+    is_printed(alloc, &TagError::TagTooLong, "P1")
+        && is_printed(alloc, &PatternError::PartialWildcard, "P2")
+        && is_printed(alloc, &PatternError::BraceFault, "P3")
+        && is_printed(alloc, &PatternError::TooMany, "P4")
+        && is_printed(alloc, &PrefixError::BadPrefix, "P5")
+}
+
+#[test]
+fn faults_are_printed_so(rt: HostRuntime) {
+    assert!(rt; are_printed(rt.alloc()));
 }
 
 // Two patterns, whether the first fits the second, and whether they are apart.
@@ -237,18 +321,29 @@ static PAIRS: [(&str, &str, bool, bool); 12] = [
 ];
 
 // Whether the first pattern fits the second, and whether they are apart, the one way and the other.
-fn compared(alloc: Global, left: &str, right: &str) -> Result<(bool, bool, bool), PatternError> {
-    let (first, second) = (one(alloc, left)?, one(alloc, right)?);
-    let fit = fits(&first, &second);
-    Ok((fit, apart(&first, &second), apart(&second, &first)))
+fn are_compared_so(first: &Plain<Global>, second: &Plain<Global>, fit: bool, far: bool) -> bool {
+    fits(first, second) == fit && apart(first, second) == far && apart(second, first) == far
+}
+
+fn are_so(alloc: Global, left: &str, right: &str, fit: bool, far: bool) -> bool {
+    match (one(alloc, left), one(alloc, right)) {
+        (Some(first), Some(second)) => are_compared_so(&first, &second, fit, far),
+        _ => false,
+    }
+}
+
+fn are_pairs(alloc: Global) -> bool {
+    for (left, right, fit, far) in &PAIRS {
+        if !are_so(alloc, left, right, *fit, *far) {
+            return false;
+        }
+    }
+    true
 }
 
 #[test]
-fn pairs_of_patterns(rt: HostRuntime) -> Result<(), Fail> {
-    for (left, right, fit, far) in &PAIRS {
-        assert_eq!(rt; compared(rt.alloc(), left, right)?, (*fit, *far, *far));
-    }
-    Ok(())
+fn pairs_of_patterns(rt: HostRuntime) {
+    assert!(rt; are_pairs(rt.alloc()));
 }
 
 // Texts on which a search or a product without bounds wouldn't end.
@@ -266,19 +361,21 @@ fn many_braces(alloc: Global) -> Result<String, AllocError> {
     Ok(text)
 }
 
+fn are_too_many(alloc: Global) -> bool {
+    match many_braces(alloc) {
+        Ok(text) => is_refused(alloc, text.as_str(), PatternError::TooMany),
+        Err(AllocError) => false,
+    }
+}
+
+static DOTS: [u8; 500] = [b'.'; 500];
+
+// Whether a search ends at once that goes through many parts.
+fn ends(alloc: Global) -> bool {
+    matched(alloc, MANY[0], &DOTS) == Some(false) && are_so(alloc, MANY[0], MANY[1], false, true)
+}
+
 #[test]
-fn hostile_texts(rt: HostRuntime) -> Result<(), Fail> {
-    let text = many_braces(rt.alloc())?;
-    assert_eq!(rt;
-        Pattern::read(rt.alloc(), text.as_str()).err(),
-        Some(PatternError::TooMany)
-    );
-    let many = one(rt.alloc(), MANY[0])?;
-    let tag = Tag::read(rt.alloc(), &[b'.'; 500])?;
-    assert!(rt; !matches(&many, &tag));
-    assert_eq!(rt;
-        compared(rt.alloc(), MANY[0], MANY[1])?,
-        (false, true, true)
-    );
-    Ok(())
+fn hostile_texts(rt: HostRuntime) {
+    assert!(rt; are_too_many(rt.alloc()) && ends(rt.alloc()));
 }

@@ -2,9 +2,9 @@
 
 use plan_answers::{run_check, run_replay};
 use program_text::{CountedRead, Open, Status};
+use std::alloc::Global;
 use std::io;
 use std::io::ErrorKind;
-use std::test::Fail;
 use stream_listing::run_decode;
 
 const PLAN: &str = "relay 1 127.0.0.1 one one.conf
@@ -95,51 +95,60 @@ impl Open for EndlessTexts {
     }
 }
 
-#[test]
-fn a_plan_without_an_end_is_not_read(rt: HostRuntime) -> Result<(), Fail> {
-    let mut out = Vec::new(rt.alloc());
+// What a reader that doesn't end gives: it is called so often, and no more.
+fn was_left(text: &Endless) -> bool {
+    text.calls == 16_777_216
+}
+
+// Whether this is printed, and the status is that of a usage.
+fn ends_so(out: &[u8], status: Status, printed: &[u8]) -> bool {
+    out == printed && matches!(status, Status::Usage)
+}
+
+fn leaves_a_plan(alloc: Global) -> bool {
+    let mut out = Vec::new(alloc);
     let mut plan = Endless { calls: 0 };
-    let status = run_check(rt.alloc(), &mut plan, &OneText, &mut out);
-    assert_eq!(rt; out.as_slice(), b"fault read\n".as_slice());
-    assert_eq!(rt; status, Status::Usage);
-    assert_eq!(rt; plan.calls, 16_777_216);
-    Ok(())
+    let status = run_check(alloc, &mut plan, &OneText, &mut out);
+    ends_so(&out, status, b"fault read\n") && was_left(&plan)
 }
 
 #[test]
-fn a_configuration_without_an_end_is_not_read(rt: HostRuntime) -> Result<(), Fail> {
-    let mut out = Vec::new(rt.alloc());
-    let status = run_check(rt.alloc(), &mut PLAN.as_bytes(), &EndlessTexts, &mut out);
-    assert_eq!(rt; out.as_slice(), b"fault read\n".as_slice());
-    assert_eq!(rt; status, Status::Usage);
-    Ok(())
+fn a_plan_without_an_end_is_not_read(rt: HostRuntime) {
+    assert!(rt; leaves_a_plan(rt.alloc()));
+}
+
+fn leaves_a_configuration(alloc: Global) -> bool {
+    let mut out = Vec::new(alloc);
+    let status = run_check(alloc, &mut PLAN.as_bytes(), &EndlessTexts, &mut out);
+    ends_so(&out, status, b"fault read\n")
+}
+
+#[test]
+fn a_configuration_without_an_end_is_not_read(rt: HostRuntime) {
+    assert!(rt; leaves_a_configuration(rt.alloc()));
+}
+
+fn leaves_white_space(alloc: Global) -> bool {
+    let mut out = Vec::new(alloc);
+    let mut text = Endless { calls: 0 };
+    let status = run_decode(alloc, &mut text, &mut out);
+    ends_so(&out, status, b"fault read\n") && was_left(&text)
 }
 
 // White space alone is no byte: it is passed over for as long as it is read.
 #[test]
-fn white_space_without_an_end_is_not_read(rt: HostRuntime) -> Result<(), Fail> {
-    let mut out = Vec::new(rt.alloc());
-    let mut text = Endless { calls: 0 };
-    let status = run_decode(rt.alloc(), &mut text, &mut out);
-    assert_eq!(rt; out.as_slice(), b"fault read\n".as_slice());
-    assert_eq!(rt; status, Status::Usage);
-    assert_eq!(rt; text.calls, 16_777_216);
-    Ok(())
+fn white_space_without_an_end_is_not_read(rt: HostRuntime) {
+    assert!(rt; leaves_white_space(rt.alloc()));
+}
+
+fn leaves_steps(alloc: Global) -> bool {
+    let mut out = Vec::new(alloc);
+    let mut steps = Endless { calls: 0 };
+    let status = run_replay(alloc, &mut PLAN.as_bytes(), &mut steps, &OneText, &mut out);
+    ends_so(&out, status, b"yes\nfault read\n") && was_left(&steps)
 }
 
 #[test]
-fn steps_without_an_end_are_not_read(rt: HostRuntime) -> Result<(), Fail> {
-    let mut out = Vec::new(rt.alloc());
-    let mut steps = Endless { calls: 0 };
-    let status = run_replay(
-        rt.alloc(),
-        &mut PLAN.as_bytes(),
-        &mut steps,
-        &OneText,
-        &mut out,
-    );
-    assert_eq!(rt; out.as_slice(), b"yes\nfault read\n".as_slice());
-    assert_eq!(rt; status, Status::Usage);
-    assert_eq!(rt; steps.calls, 16_777_216);
-    Ok(())
+fn steps_without_an_end_are_not_read(rt: HostRuntime) {
+    assert!(rt; leaves_steps(rt.alloc()));
 }

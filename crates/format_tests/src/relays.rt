@@ -6,8 +6,10 @@ use relay_conf::{
 use std::alloc::Global;
 
 fn relay(alloc: Global, text: &str) -> Option<Relay<Global>> {
-    let elements = conf_text::read(alloc, text.as_bytes()).ok()?;
-    Relay::read(alloc, &elements).ok()
+    match conf_text::read(alloc, text.as_bytes()) {
+        Ok(elements) => Relay::read(alloc, &elements).ok(),
+        Err(_) => None,
+    }
 }
 
 fn rule(relay: &Relay<Global>, scope: usize, place: usize) -> Option<&MatchRule<Global>> {
@@ -67,32 +69,15 @@ fn is_the_source(source: &Source<Global>) -> bool {
         && source.line == 1
 }
 
-fn has_the_source(alloc: Global) -> Option<bool> {
-    let relay = relay(alloc, EDGE)?;
-    Some(is_the_source(relay.sources.get(0)?) && relay.sources.len() == 1)
+fn has_the_source(relay: &Relay<Global>) -> bool {
+    match relay.sources.as_slice() {
+        [source] => is_the_source(source),
+        _ => false,
+    }
 }
 
-#[test]
-fn a_source(rt: HostRuntime) {
-    assert_eq!(rt; has_the_source(rt.alloc()), Some(true));
-}
-
-static PREFIXED: &str = "<source>\n  @type forward\n  add_tag_prefix edge.a\n</source>\n";
-
-fn has_the_prefix(alloc: Global) -> Option<bool> {
-    let relay = relay(alloc, PREFIXED)?;
-    let prefix = relay.sources.get(0)?.prefix.as_ref()?;
-    Some(prefix.as_bytes() == b"edge.a".as_slice())
-}
-
-#[test]
-fn a_prefixed_source(rt: HostRuntime) {
-    assert_eq!(rt; has_the_prefix(rt.alloc()), Some(true));
-}
-
-fn has_the_server(alloc: Global) -> Option<bool> {
-    let relay = relay(alloc, EDGE)?;
-    let settings = forward(&relay)?;
+fn has_the_server(relay: &Relay<Global>) -> Option<bool> {
+    let settings = forward(relay)?;
     let server = settings.servers.get(0)?;
     Some(
         settings.require_ack_response
@@ -103,14 +88,8 @@ fn has_the_server(alloc: Global) -> Option<bool> {
     )
 }
 
-#[test]
-fn a_relay_that_sends_on(rt: HostRuntime) {
-    assert_eq!(rt; has_the_server(rt.alloc()), Some(true));
-}
-
-fn has_the_buffer(alloc: Global) -> Option<bool> {
-    let relay = relay(alloc, EDGE)?;
-    let buffer = &forward(&relay)?.buffer;
+fn has_the_buffer(relay: &Relay<Global>) -> Option<bool> {
+    let buffer = &forward(relay)?.buffer;
     Some(
         has_path(buffer, "out")
             && buffer.retry.forever
@@ -119,9 +98,40 @@ fn has_the_buffer(alloc: Global) -> Option<bool> {
     )
 }
 
+fn has_both(relay: &Relay<Global>) -> bool {
+    has_the_server(relay) == Some(true) && has_the_buffer(relay) == Some(true)
+}
+
+fn is_the_edge(alloc: Global) -> bool {
+    match relay(alloc, EDGE) {
+        Some(relay) => has_the_source(&relay) && has_both(&relay),
+        None => false,
+    }
+}
+
+// A source, a relay that sends on, and its buffer in files.
 #[test]
-fn a_buffer_in_files(rt: HostRuntime) {
-    assert_eq!(rt; has_the_buffer(rt.alloc()), Some(true));
+fn an_edge(rt: HostRuntime) {
+    assert!(rt; is_the_edge(rt.alloc()));
+}
+
+static PREFIXED: &str = "<source>\n  @type forward\n  add_tag_prefix edge.a\n</source>\n";
+
+fn has_the_prefix(relay: &Relay<Global>) -> Option<bool> {
+    let prefix = relay.sources.get(0)?.prefix.as_ref()?;
+    Some(prefix.as_bytes() == b"edge.a".as_slice())
+}
+
+fn is_prefixed(alloc: Global) -> bool {
+    match relay(alloc, PREFIXED) {
+        Some(relay) => has_the_prefix(&relay) == Some(true),
+        None => false,
+    }
+}
+
+#[test]
+fn a_prefixed_source(rt: HostRuntime) {
+    assert!(rt; is_prefixed(rt.alloc()));
 }
 
 static LABELLED: &str = "<source>
@@ -158,9 +168,8 @@ static LABELLED: &str = "<source>
 </match>
 ";
 
-fn has_the_label(alloc: Global) -> Option<bool> {
-    let relay = relay(alloc, LABELLED)?;
-    let first = rule(&relay, 0, 0)?;
+fn has_the_label(relay: &Relay<Global>) -> Option<bool> {
+    let first = rule(relay, 0, 0)?;
     let leads = match first.outputs.get(0)? {
         Output::Relabel { target, line: _ } => target.0 == 1,
         _ => false,
@@ -168,15 +177,9 @@ fn has_the_label(alloc: Global) -> Option<bool> {
     Some(leads && relay.scopes.len() == 2 && first.patterns.len() == 2 && first.line == 15)
 }
 
-#[test]
-fn a_label(rt: HostRuntime) {
-    assert_eq!(rt; has_the_label(rt.alloc()), Some(true));
-}
-
-fn has_the_numbers(alloc: Global) -> Option<bool> {
-    let relay = relay(alloc, LABELLED)?;
-    let inner = file(&relay, 1, 0, 0)?;
-    let outer = file(&relay, 0, 1, 1)?;
+fn has_the_numbers(relay: &Relay<Global>) -> Option<bool> {
+    let inner = file(relay, 1, 0, 0)?;
+    let outer = file(relay, 0, 1, 1)?;
     Some(
         inner.number.0 == 0
             && outer.number.0 == 1
@@ -185,7 +188,17 @@ fn has_the_numbers(alloc: Global) -> Option<bool> {
     )
 }
 
+fn is_labelled(alloc: Global) -> bool {
+    match relay(alloc, LABELLED) {
+        Some(relay) => {
+            has_the_label(&relay) == Some(true) && has_the_numbers(&relay) == Some(true)
+        }
+        None => false,
+    }
+}
+
+// A label, and the numbers of buffers.
 #[test]
-fn numbers_of_buffers(rt: HostRuntime) {
-    assert_eq!(rt; has_the_numbers(rt.alloc()), Some(true));
+fn a_label(rt: HostRuntime) {
+    assert!(rt; is_labelled(rt.alloc()));
 }

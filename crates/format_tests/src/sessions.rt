@@ -1,6 +1,6 @@
 //! Worked connections, and what no clause says.
 
-ghost use Rattle.std.specs.Prelude.{◌≡◌, length, IfOk, IsSome};
+ghost use Rattle.std.specs.Prelude.{◌≡◌, length, IfSome, IsSome};
 ghost use Rattle.ack_receipt.specs.Reservations.{asked_of};
 ghost use Rattle.event_modes.specs.Reading.{meaning};
 
@@ -12,7 +12,6 @@ use forward_core::{
 };
 use msgpack_bytes::MsgFault;
 use std::alloc::{AllocError, Global};
-use std::test::Fail;
 
 const ZEROS: [u8; 16] = [0; 16];
 
@@ -57,7 +56,7 @@ const HELO: &[u8] =
     b"\x92\xa4HELO\x83\xa5nonce\xc4\x10\0\0\0\0\0\0\0\0\0\0\0\0\0\0\0\0\xa4auth\xa0\xa9keepalive\xc3";
 
 // What a server's session says to a piece.
-#[derive(Clone, Copy, Debug, PartialEq, Eq)]
+#[derive(Clone, Copy, PartialEq, Eq)]
 enum Wants {
     Nothing,
     // A message with so many bytes of entries is to be delivered.
@@ -84,7 +83,7 @@ fn feed_server(server: &mut ServerSession<Global>, piece: &[u8]) -> Wants {
 }
 
 // What a client's session says to a piece.
-#[derive(Clone, Copy, Debug, PartialEq, Eq)]
+#[derive(Clone, Copy, PartialEq, Eq)]
 enum Says {
     Wait,
     Seen,
@@ -135,108 +134,171 @@ fn wants_nothing(server: &mut ServerSession<Global>, bytes: &[u8], at: usize) ->
     feed_server(server, front) == Wants::Nothing && feed_server(server, back) == Wants::Nothing
 }
 
-// Whether a client and a server shake hands where each item comes in two pieces, of which the first
-// has at most so many bytes.
-fn shake_hands(alloc: Global, at: usize) -> Result<bool, AllocError> {
-    let mut server = open_server(alloc, true)?;
-    let mut client = open_client(alloc, b"c")?;
-    let helo = server.outgoing() == HELO && waits(&mut client, server.outgoing(), at);
-    send_all(&mut server);
+// Whether a server begins with its HELO, and a client waits behind it.
+fn is_greeted(
+    server: &mut ServerSession<Global>,
+    client: &mut ClientSession<Global>,
+    at: usize,
+) -> bool {
+    let waits = server.outgoing() == HELO && waits(client, server.outgoing(), at);
+    send_all(server);
+    waits
+}
+
+// Whether the client's PING is taken, and the server's PONG, and the client is ready then.
+fn is_let_in(
+    server: &mut ServerSession<Global>,
+    client: &mut ClientSession<Global>,
+    at: usize,
+) -> bool {
     let ping = client.outgoing();
-    let asked = ping.len() == 158 && wants_nothing(&mut server, ping, at);
+    let asked = ping.len() == 158 && wants_nothing(server, ping, at);
     let pong = server.outgoing();
-    let let_in = pong.len() == 140 && waits(&mut client, pong, at);
-    Ok(helo && asked && let_in && client.ready())
+    let let_in = pong.len() == 140 && waits(client, pong, at);
+    asked && let_in && client.ready()
+}
+
+// Whether a client and this server shake hands where each item comes in two pieces, of which the
+// first has at most so many bytes.
+fn lets_a_client_in(alloc: Global, server: &mut ServerSession<Global>, at: usize) -> bool {
+    match open_client(alloc, b"c") {
+        Ok(mut client) => {
+            is_greeted(server, &mut client, at) && is_let_in(server, &mut client, at)
+        }
+        Err(AllocError) => false,
+    }
+}
+
+// The same of a new server.
+fn shake_hands(alloc: Global, at: usize) -> bool {
+    match open_server(alloc, true) {
+        Ok(mut server) => lets_a_client_in(alloc, &mut server, at),
+        Err(AllocError) => false,
+    }
+}
+
+fn shake_always(alloc: Global) -> bool {
+    for at in 0..160 {
+        if !shake_hands(alloc, at) {
+            return false;
+        }
+    }
+    true
 }
 
 #[test]
-fn hands_are_shaken_wherever_an_item_is_cut(rt: HostRuntime) -> Result<(), AllocError> {
-    for at in 0..160 {
-        assert!(rt; shake_hands(rt.alloc(), at)?);
-    }
-    Ok(())
+fn hands_are_shaken_wherever_an_item_is_cut(rt: HostRuntime) {
+    assert!(rt; shake_always(rt.alloc()));
 }
 
 // A PONG that refuses.
 const MISMATCH: &[u8] = b"\x95\xa4PONG\xc2\xb3shared_key mismatch\xa0\xa0";
 
-#[test]
-fn a_wrong_key_is_refused_by_both(rt: HostRuntime) -> Result<(), AllocError> {
-    let mut server = open_server(rt.alloc(), true)?;
-    let mut client = open_client(rt.alloc(), b"d")?;
-    assert!(rt; waits(&mut client, server.outgoing(), 0));
-    send_all(&mut server);
-    assert_eq!(rt;
-        feed_server(&mut server, client.outgoing()),
-        Wants::Close(SessionFault::Handshake(HandshakeFault::WrongDigest))
-    );
-    assert_eq!(rt; server.outgoing(), MISMATCH);
-    assert_eq!(rt;
-        feed_client(&mut client, server.outgoing()),
-        Says::Fault(SessionFault::Handshake(HandshakeFault::RefusedByServer))
-    );
-    Ok(())
+// Whether a server refuses the PING of a client, and the client takes that so.
+fn is_refused(server: &mut ServerSession<Global>, client: &mut ClientSession<Global>) -> bool {
+    let wrong = Wants::Close(SessionFault::Handshake(HandshakeFault::WrongDigest));
+    let refused = Says::Fault(SessionFault::Handshake(HandshakeFault::RefusedByServer));
+    feed_server(server, client.outgoing()) == wrong
+        && server.outgoing() == MISMATCH
+        && feed_client(client, server.outgoing()) == refused
 }
 
-// What a server wants of each of two pieces of the message, the first of at most so many bytes.
-fn deliver_cut(alloc: Global, at: usize) -> Result<[Wants; 2], AllocError> {
-    let (front, back) = MESSAGE.split_at(at.min(MESSAGE.len()));
-    let mut server = open_server(alloc, false)?;
-    let first = feed_server(&mut server, front);
-    Ok([first, feed_server(&mut server, back)])
-}
-
-#[test]
-fn a_message_is_delivered_wherever_it_is_cut(rt: HostRuntime) -> Result<(), AllocError> {
-    for at in 0..MESSAGE.len() {
-        let wanted = deliver_cut(rt.alloc(), at)?;
-        assert_eq!(rt; wanted, [Wants::Nothing, Wants::Delivery(3)]);
+// The same of a client with another key.
+fn refuses_a_client(alloc: Global, server: &mut ServerSession<Global>) -> bool {
+    match open_client(alloc, b"d") {
+        Ok(mut client) => is_greeted(server, &mut client, 0) && is_refused(server, &mut client),
+        Err(AllocError) => false,
     }
-    Ok(())
+}
+
+fn is_wrong_key_refused(alloc: Global) -> bool {
+    match open_server(alloc, true) {
+        Ok(mut server) => refuses_a_client(alloc, &mut server),
+        Err(AllocError) => false,
+    }
+}
+
+#[test]
+fn a_wrong_key_is_refused_by_both(rt: HostRuntime) {
+    assert!(rt; is_wrong_key_refused(rt.alloc()));
+}
+
+// Whether a server wants nothing of the first piece of the message, of at most so many bytes, and
+// the delivery behind the second.
+fn is_delivered(alloc: Global, at: usize) -> bool {
+    let (front, back) = MESSAGE.split_at(at.min(MESSAGE.len()));
+    match open_server(alloc, false) {
+        Ok(mut server) => {
+            feed_server(&mut server, front) == Wants::Nothing
+                && feed_server(&mut server, back) == Wants::Delivery(3)
+        }
+        Err(AllocError) => false,
+    }
+}
+
+fn is_always_delivered(alloc: Global) -> bool {
+    for at in 0..MESSAGE.len() {
+        if !is_delivered(alloc, at) {
+            return false;
+        }
+    }
+    true
+}
+
+#[test]
+fn a_message_is_delivered_wherever_it_is_cut(rt: HostRuntime) {
+    assert!(rt; is_always_delivered(rt.alloc()));
 }
 
 // The answer to a message that goes to no buffer.
-fn answer_to(alloc: Global, message: Message<Global>) -> Result<Reserved<Global>, Fail>
-    ensures filled { IfOk result (λ reserved. IsSome reserved.filled) }
-    ensures made { IfOk result (λ reserved. reserved.asked ≡ asked_of (meaning message)) }
+fn answer_to(alloc: Global, message: Message<Global>) -> Option<Reserved<Global>>
+    ensures filled { IfSome result (λ reserved. IsSome reserved.filled) }
+    ensures made { IfSome result (λ reserved. reserved.asked ≡ asked_of (meaning message)) }
 {
-    let mut reserved = Reserved::for_message(alloc, &message)?;
-    let number = Numbers::new().draw().ok_or("no number")?;
+    let Some(number) = Numbers::new().draw() else {
+        return None;
+    };
+    let Ok(mut reserved) = Reserved::for_message(alloc, &message) else {
+        return None;
+    };
     let Ok(delivery) = Delivery::begin(alloc, number, message, Vec::new(alloc)) else {
-        return Err("no memory")?;
+        return None;
     };
     match delivery.acknowledge(&mut reserved) {
-        Ok(_) => Ok(reserved),
+        Ok(_) => Some(reserved),
         Err((_, delivery)) => {
             delivery.abandon();
-            Err("a receipt is missing")?
+            None
         }
     }
 }
 
-// Feeds a piece with one message, and answers it.
-fn answer_first(
-    alloc: Global,
-    session: &mut ServerSession<Global>,
-    piece: &[u8],
-) -> Result<(), Fail> {
-    let mut demands = session.feed(piece)?;
-    let Some(Demand::Deliver(message)) = demands.pop() else {
-        return Err("a message is to be delivered")?;
+// Whether a piece with one message is taken, and its answer.
+fn answers_first(alloc: Global, session: &mut ServerSession<Global>, piece: &[u8]) -> bool {
+    let Ok(mut demands) = session.feed(piece) else {
+        return false;
     };
-    let reserved = answer_to(alloc, message)?;
-    match session.answer(reserved) {
-        Ok(()) => Ok(()),
-        Err(_) => Err("no memory")?,
+    let Some(Demand::Deliver(message)) = demands.pop() else {
+        return false;
+    };
+    match answer_to(alloc, message) {
+        Some(reserved) => session.answer(reserved).is_ok(),
+        None => false,
+    }
+}
+
+fn is_answered(alloc: Global) -> bool {
+    match open_server(alloc, false) {
+        Ok(mut session) => {
+            answers_first(alloc, &mut session, EMPTY) && session.outgoing() == ANSWER
+        }
+        Err(AllocError) => false,
     }
 }
 
 #[test]
-fn a_message_without_entries_is_answered(rt: HostRuntime) -> Result<(), Fail> {
-    let mut session = ServerSession::open(rt.alloc(), None, ZEROS)?;
-    answer_first(rt.alloc(), &mut session, EMPTY)?;
-    assert_eq!(rt; session.outgoing(), ANSWER);
-    Ok(())
+fn a_message_without_entries_is_answered(rt: HostRuntime) {
+    assert!(rt; is_answered(rt.alloc()));
 }
 
 // What bytes begin with, and the fault of it, at a server with security or without.
@@ -263,91 +325,140 @@ static CLOSING: [(bool, &[u8], SessionFault); 4] = [
     ),
 ];
 
-// What a server wants of these bytes, and of a message behind them.
-fn wanted_of(alloc: Global, secure: bool, bytes: &[u8]) -> Result<(Wants, Wants), AllocError> {
-    let mut server = open_server(alloc, secure)?;
-    let first = feed_server(&mut server, bytes);
-    Ok((first, feed_server(&mut server, MESSAGE)))
-}
-
-#[test]
-fn bad_bytes_close_a_server(rt: HostRuntime) -> Result<(), AllocError> {
+// Whether a server closes on these bytes so, and takes no message behind them.
+fn closes(alloc: Global, secure: bool, bytes: &[u8], fault: SessionFault) -> bool {
     let over = Wants::Refused(SessionError::Fault(SessionFault::Closed));
+    match open_server(alloc, secure) {
+        Ok(mut server) => {
+            feed_server(&mut server, bytes) == Wants::Close(fault)
+                && feed_server(&mut server, MESSAGE) == over
+        }
+        Err(AllocError) => false,
+    }
+}
+
+fn all_close(alloc: Global) -> bool {
     for (secure, bytes, fault) in &CLOSING {
-        assert_eq!(rt;
-            wanted_of(rt.alloc(), *secure, bytes)?,
-            (Wants::Close(*fault), over)
-        );
+        if !closes(alloc, *secure, bytes, *fault) {
+            return false;
+        }
     }
-    Ok(())
-}
-
-// Sends the message with one entry.
-fn send_one(alloc: Global, session: &mut ClientSession<Global>, ask: bool) -> Result<(), Fail> {
-    let Some(entries) = Entries::read(alloc, b"\x92\x01\x80", 1)? else {
-        return Err("no entry")?;
-    };
-    if !session.ready() || entries.as_bytes().len() > 3 {
-        return Err("it isn't ready")?;
-    }
-    session.send(b"a", &entries, ID, ask)?;
-    Ok(())
-}
-
-// A client that sent the message; whether it was ready before, and isn't now.
-fn after_sending(alloc: Global, ask: bool) -> Result<(ClientSession<Global>, bool), Fail> {
-    let mut client = ClientSession::open(alloc, None, ZEROS)?;
-    let before = client.ready();
-    send_one(alloc, &mut client, ask)?;
-    let after = client.ready();
-    Ok((client, before && !after))
-}
-
-// What the client says to two pieces.
-fn said_to(alloc: Global, ask: bool, front: &[u8], back: &[u8]) -> Result<(Says, Says), Fail> {
-    let (mut client, _) = after_sending(alloc, ask)?;
-    let first = feed_client(&mut client, front);
-    Ok((first, feed_client(&mut client, back)))
+    true
 }
 
 #[test]
-fn a_message_is_sent_so(rt: HostRuntime) -> Result<(), Fail> {
-    let (client, is_busy) = after_sending(rt.alloc(), true)?;
-    assert!(rt; is_busy);
-    assert_eq!(rt; client.outgoing(), PACKED);
-    Ok(())
+fn bad_bytes_close_a_server(rt: HostRuntime) {
+    assert!(rt; all_close(rt.alloc()));
+}
+
+// Sends the entry, and says whether it could, and couldn't send another.
+fn send_entry(session: &mut ClientSession<Global>, entries: &Entries<Global>, ask: bool) -> bool {
+    session.ready()
+        && entries.as_bytes().len() <= 3
+        && session.send(b"a", entries, ID, ask).is_ok()
+        && !session.ready()
+}
+
+// The same of the message with one entry.
+fn send_one(alloc: Global, session: &mut ClientSession<Global>, ask: bool) -> bool {
+    match Entries::read(alloc, b"\x92\x01\x80", 1) {
+        Ok(Some(entries)) => send_entry(session, &entries, ask),
+        _ => false,
+    }
+}
+
+// A client that sent the message.
+fn after_sending(alloc: Global, ask: bool) -> Option<ClientSession<Global>> {
+    let Ok(mut client) = ClientSession::open(alloc, None, ZEROS) else {
+        return None;
+    };
+    if send_one(alloc, &mut client, ask) {
+        return Some(client);
+    }
+    None
+}
+
+// Whether it is sent so.
+fn is_sent(alloc: Global) -> bool {
+    match after_sending(alloc, true) {
+        Some(client) => client.outgoing() == PACKED,
+        None => false,
+    }
+}
+
+#[test]
+fn a_message_is_sent_so(rt: HostRuntime) {
+    assert!(rt; is_sent(rt.alloc()));
+}
+
+// Two pieces that a client gets which sent the message, and what it says to each.
+#[derive(Clone, Copy)]
+struct Replies<'a> {
+    ask: bool,
+    front: &'a [u8],
+    back: &'a [u8],
+    says: (Says, Says),
+}
+
+fn are_replied(alloc: Global, replies: &Replies<'_>) -> bool {
+    match after_sending(alloc, replies.ask) {
+        Some(mut client) => {
+            feed_client(&mut client, replies.front) == replies.says.0
+                && feed_client(&mut client, replies.back) == replies.says.1
+        }
+        None => false,
+    }
 }
 
 // A heartbeat and another chunk's acknowledgement come first.
 const REPLY: &[u8] = b"\xc0\x81\xa3ack\xa2c1\x81\xa3ack\xb8AAAAAgAAAAEAAAAAAAAAAw==";
 
-#[test]
-fn an_acknowledgement_is_seen_however_it_is_cut(rt: HostRuntime) -> Result<(), Fail> {
+fn is_seen(alloc: Global, at: usize) -> bool {
+    let (front, back) = REPLY.split_at(at.min(REPLY.len()));
+    let replies = Replies {
+        ask: true,
+        front,
+        back,
+        says: (Says::Wait, Says::Seen),
+    };
+    are_replied(alloc, &replies)
+}
+
+fn is_always_seen(alloc: Global) -> bool {
     for at in 0..REPLY.len() {
-        let (front, back) = REPLY.split_at(at.min(REPLY.len()));
-        assert_eq!(rt;
-            said_to(rt.alloc(), true, front, back)?,
-            (Says::Wait, Says::Seen)
-        );
+        if !is_seen(alloc, at) {
+            return false;
+        }
     }
-    Ok(())
+    true
 }
 
 #[test]
-fn other_replies(rt: HostRuntime) -> Result<(), Fail> {
-    assert_eq!(rt;
-        said_to(rt.alloc(), true, b"\xc1", b"")?,
-        (
-            Says::Fault(SessionFault::BadAck),
-            Says::Fault(SessionFault::Closed)
-        )
-    );
-    // No acknowledgement was asked for.
-    assert_eq!(rt;
-        said_to(rt.alloc(), false, REPLY, b"")?,
-        (Says::Wait, Says::Wait)
-    );
-    Ok(())
+fn an_acknowledgement_is_seen_however_it_is_cut(rt: HostRuntime) {
+    assert!(rt; is_always_seen(rt.alloc()));
+}
+
+static BAD: Replies<'static> = Replies {
+    ask: true,
+    front: b"\xc1",
+    back: b"",
+    says: (
+        Says::Fault(SessionFault::BadAck),
+        Says::Fault(SessionFault::Closed),
+    ),
+};
+
+// No acknowledgement was asked for.
+static UNASKED: Replies<'static> = Replies {
+    ask: false,
+    front: REPLY,
+    back: b"",
+    says: (Says::Wait, Says::Wait),
+};
+
+#[test]
+fn other_replies(rt: HostRuntime) {
+    assert!(rt; are_replied(rt.alloc(), &BAD) && are_replied(rt.alloc(), &UNASKED));
 }
 
 // A message of one entry of a million and ten bytes.
@@ -368,20 +479,30 @@ fn first_wanted(server: &mut ServerSession<Global>, bytes: &[u8]) -> Wants {
     Wants::Nothing
 }
 
-// What a server wants first of the message in pieces of one byte, and whether it does so before the
-// last.
-fn wanted_by_bytes(alloc: Global, message: &[u8]) -> Result<(Wants, Wants), AllocError> {
+// Whether a server wants nothing of the message in pieces of one byte before the last, and the
+// delivery then.
+fn wants_at_last(server: &mut ServerSession<Global>, message: &[u8]) -> bool {
     let (front, last) = message.split_at(message.len().saturating_sub(1));
-    let mut server = open_server(alloc, false)?;
-    let early = first_wanted(&mut server, front);
-    Ok((early, first_wanted(&mut server, last)))
+    first_wanted(server, front) == Wants::Nothing
+        && first_wanted(server, last) == Wants::Delivery(1_000_010)
+}
+
+fn is_wanted_at_last(alloc: Global, message: &[u8]) -> bool {
+    match open_server(alloc, false) {
+        Ok(mut server) => wants_at_last(&mut server, message),
+        Err(AllocError) => false,
+    }
+}
+
+fn comes_byte_by_byte(alloc: Global) -> bool {
+    match long_message(alloc) {
+        Ok(message) => is_wanted_at_last(alloc, &message),
+        Err(AllocError) => false,
+    }
 }
 
 // The session looks at each byte once.
 #[test]
-fn a_long_message_comes_byte_by_byte(rt: HostRuntime) -> Result<(), AllocError> {
-    let message = long_message(rt.alloc())?;
-    let wanted = wanted_by_bytes(rt.alloc(), &message)?;
-    assert_eq!(rt; wanted, (Wants::Nothing, Wants::Delivery(1_000_010)));
-    Ok(())
+fn a_long_message_comes_byte_by_byte(rt: HostRuntime) {
+    assert!(rt; comes_byte_by_byte(rt.alloc()));
 }

@@ -44,12 +44,18 @@ static AMOUNTS: [(&str, Option<u64>, Option<u64>); 34] = [
     ("213503982334602d", None, None),
 ];
 
+fn are_amounts() -> bool {
+    for (text, bytes, time) in &AMOUNTS {
+        if size(text.as_bytes()) != *bytes || seconds(text.as_bytes()) != *time {
+            return false;
+        }
+    }
+    true
+}
+
 #[test]
 fn amounts_are_read(rt: HostRuntime) {
-    for (text, bytes, time) in &AMOUNTS {
-        assert_eq!(rt; size(text.as_bytes()), *bytes);
-        assert_eq!(rt; seconds(text.as_bytes()), *time);
-    }
+    assert!(rt; are_amounts());
 }
 
 // Texts, and the boolean and the port of each.
@@ -75,12 +81,18 @@ static WORDS: [(&str, Option<bool>, Option<u16>); 19] = [
     ("80k", None, None),
 ];
 
+fn are_words() -> bool {
+    for (text, truth, number) in &WORDS {
+        if boolean(text.as_bytes()) != *truth || port(text.as_bytes()) != *number {
+            return false;
+        }
+    }
+    true
+}
+
 #[test]
 fn words_are_read(rt: HostRuntime) {
-    for (text, truth, number) in &WORDS {
-        assert_eq!(rt; boolean(text.as_bytes()), *truth);
-        assert_eq!(rt; port(text.as_bytes()), *number);
-    }
+    assert!(rt; are_words());
 }
 
 // 64 bytes.
@@ -111,18 +123,30 @@ static NAMES: [(&str, bool, bool, bool); 19] = [
     ("A@", false, false, false),
 ];
 
-#[test]
-fn names_are_told_apart(rt: HostRuntime) {
+// Whether a text is a path, has a slash, and is a label's name.
+fn is_name(text: &[u8], path: bool, slash: bool, label: bool) -> bool {
+    is_path(text) == path && has_slash(text) == slash && is_label_name(text) == label
+}
+
+fn are_names() -> bool {
     for (text, path, slash, label) in &NAMES {
-        assert_eq!(rt; is_path(text.as_bytes()), *path);
-        assert_eq!(rt; has_slash(text.as_bytes()), *slash);
-        assert_eq!(rt; is_label_name(text.as_bytes()), *label);
+        if !is_name(text.as_bytes(), *path, *slash, *label) {
+            return false;
+        }
     }
+    true
 }
 
 #[test]
+fn names_are_told_apart(rt: HostRuntime) {
+    assert!(rt; are_names());
+}
+
+static LONGEST: [u8; 1_024] = [b'a'; 1_024];
+
+static LONGER: [u8; 1_025] = [b'a'; 1_025];
+
+#[test]
 fn hosts_are_short(rt: HostRuntime) {
-    assert!(rt; is_host_name(b""));
-    assert!(rt; is_host_name(&[b'a'; 1_024]));
-    assert!(rt; !is_host_name(&[b'a'; 1_025]));
+    assert!(rt; is_host_name(b"") && is_host_name(&LONGEST) && !is_host_name(&LONGER));
 }

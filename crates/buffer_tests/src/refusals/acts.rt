@@ -1,8 +1,8 @@
 //! Calls of a buffer, and what it shows.
 
 use crate::refusals::told::Told;
-use buffer_state::{ChunkFacts, Limits, Stage};
-use buffer_store::{Appended, Buffer, BufferFault, Settings};
+use buffer_state::{ChunkFacts, Stage};
+use buffer_store::{Appended, Buffer, BufferFault};
 use disk_files::Dir;
 use event_modes::Entries;
 use std::alloc::{AllocError, Allocator};
@@ -20,24 +20,6 @@ pub enum Act {
     DropOldest,
     Renew,
     Body(u64),
-}
-
-/// Opens the buffer in this folder, whose journal is to be renewed past so many bytes. A folder
-/// that doesn't open is handed back with its fault.
-pub fn open<D: Dir, A: Allocator + Copy>(
-    alloc: A,
-    dir: D,
-    renewed_past: u64,
-) -> Result<Buffer<D, A>, (BufferFault, D)> {
-    let limits = Limits {
-        chunk: u64::MAX,
-        total: u64::MAX,
-    };
-    let settings = Settings {
-        limits,
-        renewed_past,
-    };
-    Buffer::open(alloc, dir, b"buf", settings)
 }
 
 /// The entry of this number.

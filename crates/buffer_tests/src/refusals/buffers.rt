@@ -1,15 +1,18 @@
 //! Each call of a script of a buffer, and an opening behind each.
 
-use crate::refusals::acts::{Act, entry, number_of, open, take, take_all, tell_buffer};
-use crate::refusals::files::{NewDir, tell_left};
+use crate::devices::NewDir;
+use crate::refusals::acts::{Act, entry, number_of, take, take_all, tell_buffer};
+use crate::refusals::files::tell_left;
+use crate::refusals::parts::{Part, in_memory};
 use crate::refusals::told::Told;
-use crate::refusals::trial::{Heap, Trial, requests_of};
+use crate::refusals::trial::{Refuses, Trial, requests_of};
+use crate::script::{WIDE, open};
 use buffer_store::{Buffer, BufferFault, RENEWED_PAST_IN_MEMORY};
-use disk_files::{Dir, MemoryDir};
+use disk_files::Dir;
 use event_modes::Entries;
-use refusing_alloc::Refusing;
-use std::alloc::{AllocError, Allocator};
+use std::alloc::{AllocError, Allocator, Global};
 use std::mem::replace;
+use std::process::Abort;
 
 // Chunks of which one grows are queued, claimed, given back, purged and dropped. The journal is
 // renewed with chunks in each stage, and with few.
@@ -54,7 +57,7 @@ static SCRIPT: [Act; 36] = [
 
 // A buffer in a new folder.
 fn new_buffer<A: Allocator + Copy, D: NewDir<A>>(heap: A) -> Option<Buffer<D, A>> {
-    match open(heap, D::new_dir(heap), RENEWED_PAST_IN_MEMORY) {
+    match open(heap, D::made(heap), WIDE, RENEWED_PAST_IN_MEMORY) {
         Ok(buffer) => Some(buffer),
         Err((_fault, _dir)) => None,
     }
@@ -109,12 +112,12 @@ fn answered(answer: Result<u64, BufferFault>, told: &mut Told) -> Result<(), All
 
 impl<A: Allocator + Copy, D: NewDir<A>> Trial<A, Place> for Taking<A, D> {
     fn made(heap: A, call: &Place, told: &mut Told) -> Option<Self> {
-        match (
-            played(heap, call.0, told),
-            entry(heap, number_of(call.act())),
-        ) {
-            (Some(buffer), Ok(some)) => Some(Taking { heap, buffer, some }),
-            _ => None,
+        let Ok(some) = entry(heap, number_of(call.act())) else {
+            return None;
+        };
+        match played(heap, call.0, told) {
+            Some(buffer) => Some(Taking { heap, buffer, some }),
+            None => None,
         }
     }
 
@@ -153,7 +156,7 @@ struct Folder<A: Allocator + Copy, D: Dir> {
 
 // Opens the folder. What comes of it, and its answer.
 fn opened<A: Allocator + Copy, D: Dir>(heap: A, dir: D) -> (Found<A, D>, Result<u64, BufferFault>) {
-    match open(heap, dir, RENEWED_PAST_IN_MEMORY) {
+    match open(heap, dir, WIDE, RENEWED_PAST_IN_MEMORY) {
         Ok(buffer) => (Found::Buffer(buffer), Ok(0)),
         Err((fault, dir)) => (Found::Folder(dir), Err(fault)),
     }
@@ -195,10 +198,6 @@ impl<A: Allocator + Copy, D: NewDir<A>> Trial<A, Opening> for Folder<A, D> {
     }
 }
 
-type Held<'a> = Taking<Heap<'a>, MemoryDir<Heap<'a>>>;
-
-type Reopened<'a> = Folder<Heap<'a>, MemoryDir<Heap<'a>>>;
-
 // The places of the script before which the folder is opened.
 static PLACES: [usize; 4] = [0, 1, 7, 25];
 
@@ -227,29 +226,57 @@ fn count(counts: &mut [u64; 7], act: Act, requests: u64) -> bool {
     true
 }
 
-#[test]
-fn calls(rt: HostRuntime) {
-    let heap = Refusing::new(rt.alloc());
+// Counts the requests of the call at this place; whether it makes none if it takes no memory.
+fn is_counted<R: Abort, H: Refuses, D: NewDir<H>>(
+    rt: &R,
+    alloc: Global,
+    heap: H,
+    place: usize,
+    counts: &mut [u64; 7],
+) -> bool {
+    let call = Place(place);
+    let requests = requests_of::<_, _, _, Taking<H, D>>(rt, alloc, heap, place, &call);
+    count(counts, call.act(), requests)
+}
+
+// Whether one of these is none.
+fn has_none(counts: &[u64; 7]) -> bool {
+    for requests in counts {
+        if *requests == 0 {
+            return true;
+        }
+    }
+    false
+}
+
+/// Whether each kind of call that takes memory asks for it, and no other.
+pub fn calls_ask<R: Abort, H: Refuses, D: NewDir<H>>(rt: &R, alloc: Global, heap: H) -> bool {
     let mut counts = [0; 7];
     for place in 0..SCRIPT.len() {
-        let call = Place(place);
-        let requests = requests_of::<_, _, Held<'_>>(&rt, rt.alloc(), &heap, place, &call);
-        assert!(rt;
-            count(&mut counts, call.act(), requests),
-            "{place} takes memory"
-        );
+        if !is_counted::<R, H, D>(rt, alloc, heap, place, &mut counts) {
+            return false;
+        }
     }
-    for requests in counts {
-        assert!(rt; requests > 0, "of {counts:?}");
+    !has_none(&counts)
+}
+
+#[test]
+fn calls(rt: HostRuntime) {
+    assert!(rt; in_memory(&rt, rt.alloc(), Part::Calls));
+}
+
+/// Whether each opening asks for memory.
+pub fn openings_ask<R: Abort, H: Refuses, D: NewDir<H>>(rt: &R, alloc: Global, heap: H) -> bool {
+    for place in &PLACES {
+        let call = Opening(*place);
+        if requests_of::<_, _, _, Folder<H, D>>(rt, alloc, heap, *place, &call) == 0 {
+            return false;
+        }
     }
+    true
 }
 
 #[test]
 fn openings(rt: HostRuntime) {
-    let heap = Refusing::new(rt.alloc());
-    for place in &PLACES {
-        let call = Opening(*place);
-        let requests = requests_of::<_, _, Reopened<'_>>(&rt, rt.alloc(), &heap, *place, &call);
-        assert!(rt; requests > 0);
-    }
+    assert!(rt; in_memory(&rt, rt.alloc(), Part::Openings));
 }

@@ -1,13 +1,15 @@
 //! Deliveries are begun, room is made for answers, and books are audited.
 
+use crate::refusals::reading::tell_message;
 use crate::refusals::shop::{LEAF, message};
 use crate::refusals::told::Told;
 use crate::refusals::trial::{Heap, Trial, requests_of};
 use ack_receipt::{Delivery, Numbers, Reserved, Unbegun};
 use event_modes::Message;
 use refusing_alloc::Refusing;
-use std::alloc::{AllocError, AllocFailed, Allocator};
+use std::alloc::{AllocError, AllocFailed, Allocator, Global};
 use std::mem::replace;
+use std::process::Abort;
 
 // Under which tag a delivery is begun.
 #[derive(Clone, Copy)]
@@ -26,14 +28,6 @@ enum Beginning<A: Allocator> {
 struct Desk<A: Allocator> {
     heap: A,
     beginning: Beginning<A>,
-}
-
-fn tell_message<A: Allocator>(message: &Message<A>, told: &mut Told) {
-    told.bytes(&message.tag);
-    told.bytes(message.entries.as_bytes());
-    if let Some(item) = &message.ack {
-        told.bytes(item);
-    }
 }
 
 fn tell_parts<A: Allocator>(parts: &Unbegun<A>, told: &mut Told) {
@@ -161,17 +155,27 @@ static UNDER: [Under; 2] = [Under::Own, Under::Other];
 
 static ROOM: Room = Room;
 
+// Whether each asks for memory.
+fn each_asks<R: Abort>(rt: &R, alloc: Global, heap: Heap<'_>) -> bool {
+    for (number, under) in UNDER.iter().enumerate() {
+        if requests_of::<_, _, _, Desk<Heap<'_>>>(rt, alloc, heap, number, under) < 2 {
+            return false;
+        }
+    }
+    true
+}
+
 #[test]
 fn deliveries(rt: HostRuntime) {
-    let heap = Refusing::new(rt.alloc());
-    for (number, under) in UNDER.iter().enumerate() {
-        let requests = requests_of::<_, _, Desk<Heap<'_>>>(&rt, rt.alloc(), &heap, number, under);
-        assert!(rt; requests > 1, "{number}");
-    }
+    assert!(rt; each_asks(&rt, rt.alloc(), &Refusing::new(rt.alloc())));
+}
+
+// Whether room for an answer asks for memory.
+fn room_asks<R: Abort>(rt: &R, alloc: Global, heap: Heap<'_>) -> bool {
+    requests_of::<_, _, _, Asked<Heap<'_>>>(rt, alloc, heap, 0, &ROOM) > 2
 }
 
 #[test]
 fn rooms(rt: HostRuntime) {
-    let heap = Refusing::new(rt.alloc());
-    assert!(rt; requests_of::<_, _, Asked<Heap<'_>>>(&rt, rt.alloc(), &heap, 0, &ROOM) > 2);
+    assert!(rt; room_asks(&rt, rt.alloc(), &Refusing::new(rt.alloc())));
 }

@@ -1,21 +1,9 @@
-//! Folders, and what they have.
+//! What folders have.
 
 use crate::refusals::told::Told;
-use disk_files::{Dir, DirError, FileName, MemoryDir};
+use disk_files::{Dir, DirError, FileName};
 use numbered_files::read_file;
 use std::alloc::Allocator;
-
-/// A folder that can be made anew.
-pub trait NewDir<A: Allocator + Copy>: Dir + Drop {
-    /// A folder with no files.
-    fn new_dir(heap: A) -> Self;
-}
-
-impl<A: Allocator + Copy> NewDir<A> for MemoryDir<A> {
-    fn new_dir(heap: A) -> Self {
-        MemoryDir::new(heap)
-    }
-}
 
 fn tell_file<A: Allocator + Copy, D: Dir>(
     heap: A,

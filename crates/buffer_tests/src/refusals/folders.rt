@@ -1,11 +1,12 @@
 //! Files are made, opened, given room and listed in a folder in memory, and read whole.
 
-use crate::refusals::files::{NewDir, tell_left};
+use crate::devices::NewDir;
+use crate::refusals::files::tell_left;
+use crate::refusals::parts::{Part, in_memory};
 use crate::refusals::told::Told;
-use crate::refusals::trial::{Heap, Trial, requests_of};
-use disk_files::{Dir, DirError, FileName, MemoryDir, Writing};
+use crate::refusals::trial::{Refuses, Trial, requests_of};
+use disk_files::{Dir, DirError, FileName, Writing};
 use numbered_files::{Family, numbers, read_file};
-use refusing_alloc::Refusing;
 use std::alloc::{AllocError, Allocator, Global};
 use std::process::Abort;
 
@@ -151,7 +152,7 @@ fn fill<A: Allocator + Copy, D: Dir>(heap: A, dir: &mut D, files: u32) -> Result
 
 impl<A: Allocator + Copy, D: NewDir<A>> Trial<A, Calling> for Folder<A, D> {
     fn made(heap: A, call: &Calling, _told: &mut Told) -> Option<Self> {
-        let mut dir = D::new_dir(heap);
+        let mut dir = D::made(heap);
         match fill(heap, &mut dir, call.files) {
             Ok(()) => Some(Folder { heap, dir }),
             Err(_) => None,
@@ -180,28 +181,35 @@ impl<A: Allocator + Copy, D: NewDir<A>> Trial<A, Calling> for Folder<A, D> {
 // A folder with some of these numbers of files has room for one more, and with others not.
 static FILES: [u32; 6] = [0, 1, 4, 5, 8, 9];
 
-type InMemory<'a> = Folder<Heap<'a>, MemoryDir<Heap<'a>>>;
-
 // How many requests it makes, with each of these numbers of files.
-fn with_each<R: Abort>(rt: &R, alloc: Global, heap: Heap<'_>, number: usize, act: Act) -> u64 {
+fn with_each<R: Abort, H: Refuses, D: NewDir<H>>(
+    rt: &R,
+    alloc: Global,
+    heap: H,
+    number: usize,
+    act: Act,
+) -> u64 {
     let mut requests = 0u64;
     for files in &FILES {
         let call = Calling { act, files: *files };
-        let more = requests_of::<_, _, InMemory<'_>>(rt, alloc, heap, number, &call);
+        let more = requests_of::<_, _, _, Folder<H, D>>(rt, alloc, heap, number, &call);
         requests = requests.saturating_add(more);
     }
     requests
 }
 
+/// Whether all calls ask for memory, but for an opening: a folder in memory opens its files without
+/// it.
+pub fn all_ask<R: Abort, H: Refuses, D: NewDir<H>>(rt: &R, alloc: Global, heap: H) -> bool {
+    for (number, act) in ACTS.iter().enumerate() {
+        if with_each::<R, H, D>(rt, alloc, heap, number, *act) < 2 && !matches!(act, Act::Open) {
+            return false;
+        }
+    }
+    true
+}
+
 #[test]
 fn calls(rt: HostRuntime) {
-    let heap = Refusing::new(rt.alloc());
-    for (number, act) in ACTS.iter().enumerate() {
-        let requests = with_each(&rt, rt.alloc(), &heap, number, *act);
-        // A folder in memory opens its files without memory.
-        assert!(rt;
-            requests > 1 || matches!(act, Act::Open),
-            "{number} asks for no memory"
-        );
-    }
+    assert!(rt; in_memory(&rt, rt.alloc(), Part::Folders));
 }

@@ -1,6 +1,6 @@
 //! HELO, PING and PONG are taken and written.
 
-use crate::refusals::putting::xs;
+use crate::refusals::putting::{LENGTHS, xs};
 use crate::refusals::told::Told;
 use crate::refusals::trial::{Heap, Trial, requests_of};
 use auth_handshake::{Client, HeloError, Ping, Server};
@@ -168,9 +168,6 @@ impl<A: Allocator + Copy> Trial<A, Calling> for Ends<A> {
     }
 }
 
-// A list of some of these lengths has room, and of others not.
-static LENGTHS: [usize; 8] = [0, 5, 8, 16, 30, 32, 60, 64];
-
 // How many requests it makes, behind each of these numbers of bytes.
 fn behind_each<R: Abort>(rt: &R, alloc: Global, heap: Heap<'_>, number: usize, call: Call) -> u64 {
     let mut requests = 0u64;
@@ -179,17 +176,23 @@ fn behind_each<R: Abort>(rt: &R, alloc: Global, heap: Heap<'_>, number: usize, c
             call,
             behind: *behind,
         };
-        let more = requests_of::<_, _, Ends<Heap<'_>>>(rt, alloc, heap, number, &calling);
+        let more = requests_of::<_, _, _, Ends<Heap<'_>>>(rt, alloc, heap, number, &calling);
         requests = requests.saturating_add(more);
     }
     requests
 }
 
+// Whether each call asks for memory.
+fn each_asks<R: Abort>(rt: &R, alloc: Global, heap: Heap<'_>) -> bool {
+    for (number, call) in CALLS.iter().enumerate() {
+        if behind_each(rt, alloc, heap, number, *call) < 2 {
+            return false;
+        }
+    }
+    true
+}
+
 #[test]
 fn handshakes(rt: HostRuntime) {
-    let heap = Refusing::new(rt.alloc());
-    for (number, call) in CALLS.iter().enumerate() {
-        let requests = behind_each(&rt, rt.alloc(), &heap, number, *call);
-        assert!(rt; requests > 1, "{number} asks for no memory");
-    }
+    assert!(rt; each_asks(&rt, rt.alloc(), &Refusing::new(rt.alloc())));
 }

@@ -1,7 +1,8 @@
 //! Journals are written and replayed, whole and by pieces, and the items of a sink's file are
 //! counted.
 
-use crate::refusals::putting::{entry, xs};
+use crate::refusals::putting::{Written, make_written};
+use crate::refusals::reading::Reader;
 use crate::refusals::told::Told;
 use crate::refusals::trial::{Heap, Trial, requests_of};
 use buffer_state::{Chunks, Stage};
@@ -63,10 +64,6 @@ fn count_items<A: Allocator + Copy>(heap: A, told: &mut Told) -> Result<(), Allo
     Ok(())
 }
 
-// An allocator, by which bytes are read.
-#[derive(Drop)]
-struct Reader<A>(A);
-
 impl<A: Allocator + Copy> Trial<A, Reading> for Reader<A> {
     fn made(heap: A, _call: &Reading, _told: &mut Told) -> Option<Self> {
         Some(Reader(heap))
@@ -114,7 +111,23 @@ fn feed<A: Allocator + Copy>(
     }
 }
 
-// What was fed up to this place, by pieces of at most so many bytes.
+// Feeds the journal up to this place, by pieces of at most so many bytes, as far as memory reaches.
+fn feed_front<A: Allocator + Copy>(
+    outline: &mut Outline<A>,
+    place: usize,
+    size: u8,
+    told: &mut Told,
+) -> Result<(), AllocError> {
+    let (front, _) = JOURNAL.split_at(place.min(JOURNAL.len()));
+    for piece in front.chunks(usize::from(size.max(1))) {
+        if feed(outline, piece, told).is_err() {
+            return Err(AllocError);
+        }
+    }
+    Ok(())
+}
+
+// What was fed so.
 fn fed<A: Allocator + Copy>(
     heap: A,
     place: usize,
@@ -122,13 +135,10 @@ fn fed<A: Allocator + Copy>(
     told: &mut Told,
 ) -> Option<Outline<A>> {
     let mut outline = Outline::new(heap);
-    let (front, _) = JOURNAL.split_at(place.min(JOURNAL.len()));
-    for piece in front.chunks(usize::from(size.max(1))) {
-        if feed(&mut outline, piece, told).is_err() {
-            return None;
-        }
+    match feed_front(&mut outline, place, size, told) {
+        Ok(()) => Some(outline),
+        Err(AllocError) => None,
     }
-    Some(outline)
 }
 
 fn finished<A: Allocator + Copy>(
@@ -230,12 +240,6 @@ struct Recording {
     behind: usize,
 }
 
-#[derive(Drop)]
-struct Written<A: Allocator> {
-    out: Vec<u8, A>,
-    entries: Entries<A>,
-}
-
 fn put<A: Allocator + Copy>(
     out: &mut Vec<u8, A>,
     entries: &Entries<A>,
@@ -257,10 +261,7 @@ fn put<A: Allocator + Copy>(
 
 impl<A: Allocator + Copy> Trial<A, Recording> for Written<A> {
     fn made(heap: A, call: &Recording, _told: &mut Told) -> Option<Self> {
-        match (xs(heap, call.behind), entry(heap)) {
-            (Some(out), Some(entries)) => Some(Written { out, entries }),
-            _ => None,
-        }
+        make_written(heap, call.behind)
     }
 
     fn call(&mut self, call: &Recording, _told: &mut Told) -> Result<(), AllocError> {
@@ -280,25 +281,33 @@ static PLACES: [usize; 9] = [0, 7, 21, 42, 63, 84, 105, 140, 175];
 // A list of some of these lengths has room, and of others not.
 static LENGTHS: [usize; 7] = [0, 8, 16, 30, 32, 60, 64];
 
+// Whether this asks for memory.
+fn asks<R: Abort>(rt: &R, alloc: Global, heap: Heap<'_>, call: Reading) -> bool {
+    requests_of::<_, _, _, Reader<Heap<'_>>>(rt, alloc, heap, 0, &call) > 1
+}
+
+// Whether both do.
+fn both_ask<R: Abort>(rt: &R, alloc: Global, heap: Heap<'_>) -> bool {
+    asks(rt, alloc, heap, Reading::Replay) && asks(rt, alloc, heap, Reading::Count)
+}
+
 #[test]
 fn bytes_that_are_read(rt: HostRuntime) {
-    let heap = Refusing::new(rt.alloc());
-    for call in [Reading::Replay, Reading::Count] {
-        let requests = requests_of::<_, _, Reader<Heap<'_>>>(&rt, rt.alloc(), &heap, 0, &call);
-        assert!(rt; requests > 1);
+    assert!(rt; both_ask(&rt, rt.alloc(), &Refusing::new(rt.alloc())));
+}
+
+// Feeds an outline from each of these places, and says whether finishing it asks for memory.
+fn outlines_ask<R: Abort>(rt: &R, alloc: Global, heap: Heap<'_>) -> bool {
+    for place in &PLACES {
+        let call = Outlining::Feed(*place);
+        let _ = requests_of::<_, _, _, Drawn<Heap<'_>>>(rt, alloc, heap, *place, &call);
     }
+    requests_of::<_, _, _, Drawn<Heap<'_>>>(rt, alloc, heap, 999, &Outlining::Finish) > 0
 }
 
 #[test]
 fn outlines(rt: HostRuntime) {
-    let heap = Refusing::new(rt.alloc());
-    for place in &PLACES {
-        let call = Outlining::Feed(*place);
-        let _ = requests_of::<_, _, Drawn<Heap<'_>>>(&rt, rt.alloc(), &heap, *place, &call);
-    }
-    let call = Outlining::Finish;
-    let requests = requests_of::<_, _, Drawn<Heap<'_>>>(&rt, rt.alloc(), &heap, 999, &call);
-    assert!(rt; requests > 0);
+    assert!(rt; outlines_ask(&rt, rt.alloc(), &Refusing::new(rt.alloc())));
 }
 
 // How many requests a record of this kind makes, behind each of these numbers of bytes.
@@ -309,17 +318,23 @@ fn behind_each<R: Abort>(rt: &R, alloc: Global, heap: Heap<'_>, kind: u8) -> u64
             kind,
             behind: *behind,
         };
-        let more = requests_of::<_, _, Written<Heap<'_>>>(rt, alloc, heap, *behind, &call);
+        let more = requests_of::<_, _, _, Written<Heap<'_>>>(rt, alloc, heap, *behind, &call);
         requests = requests.saturating_add(more);
     }
     requests
 }
 
+// Whether each kind asks for memory.
+fn records_ask<R: Abort>(rt: &R, alloc: Global, heap: Heap<'_>) -> bool {
+    for kind in 1..5u8 {
+        if behind_each(rt, alloc, heap, kind) < 2 {
+            return false;
+        }
+    }
+    true
+}
+
 #[test]
 fn records(rt: HostRuntime) {
-    let heap = Refusing::new(rt.alloc());
-    for kind in 1..5u8 {
-        let requests = behind_each(&rt, rt.alloc(), &heap, kind);
-        assert!(rt; requests > 1, "kind {kind}");
-    }
+    assert!(rt; records_ask(&rt, rt.alloc(), &Refusing::new(rt.alloc())));
 }

@@ -1,5 +1,6 @@
 //! Bytes are written behind others, of which there are so many that each growth comes once.
 
+use crate::refusals::acts::entry;
 use crate::refusals::told::Told;
 use crate::refusals::trial::{Heap, Trial, requests_of};
 use event_modes::{ChunkId, Entries, put_ack, put_packed};
@@ -40,8 +41,6 @@ static PUTS: [Put; 9] = [
     Put::Packed(Some(ID)),
 ];
 
-static ENTRY: &[u8] = b"\x92\x01\x80";
-
 // What is written behind so many bytes.
 #[derive(Clone, Copy)]
 struct Putting {
@@ -49,7 +48,7 @@ struct Putting {
     behind: usize,
 }
 
-// So many bytes.
+/// So many bytes.
 pub fn xs<A: Allocator>(heap: A, count: usize) -> Option<Vec<u8, A>> {
     let mut out = Vec::new(heap);
     for _ in 0..count {
@@ -60,19 +59,19 @@ pub fn xs<A: Allocator>(heap: A, count: usize) -> Option<Vec<u8, A>> {
     Some(out)
 }
 
-// One entry.
-pub fn entry<A: Allocator + Copy>(heap: A) -> Option<Entries<A>> {
-    match Entries::read(heap, ENTRY, 1) {
-        Ok(entries) => entries,
-        Err(AllocError) => None,
-    }
+/// What is written, and the entries of messages and records.
+#[derive(Drop)]
+pub struct Written<A: Allocator> {
+    pub out: Vec<u8, A>,
+    pub entries: Entries<A>,
 }
 
-// The bytes, and the entries of messages.
-#[derive(Drop)]
-struct Written<A: Allocator> {
-    out: Vec<u8, A>,
-    entries: Entries<A>,
+/// So many bytes, and one entry.
+pub fn make_written<A: Allocator + Copy>(heap: A, behind: usize) -> Option<Written<A>> {
+    match (xs(heap, behind), entry(heap, 1)) {
+        (Some(out), Ok(entries)) => Some(Written { out, entries }),
+        _ => None,
+    }
 }
 
 fn put_message<A: Allocator + Copy>(
@@ -106,10 +105,7 @@ fn put_so<A: Allocator + Copy>(
 
 impl<A: Allocator + Copy> Trial<A, Putting> for Written<A> {
     fn made(heap: A, call: &Putting, _told: &mut Told) -> Option<Self> {
-        match (xs(heap, call.behind), entry(heap)) {
-            (Some(out), Some(entries)) => Some(Written { out, entries }),
-            _ => None,
-        }
+        make_written(heap, call.behind)
     }
 
     fn call(&mut self, call: &Putting, _told: &mut Told) -> Result<(), AllocError> {
@@ -148,7 +144,7 @@ fn times<A: Allocator + Copy>(
 
 impl<A: Allocator + Copy> Trial<A, Appending> for Entered<A> {
     fn made(heap: A, call: &Appending, _told: &mut Told) -> Option<Self> {
-        let Some(one) = entry(heap) else {
+        let Ok(one) = entry(heap, 1) else {
             return None;
         };
         match times(heap, &one, call.0) {
@@ -169,8 +165,8 @@ impl<A: Allocator + Copy> Trial<A, Appending> for Entered<A> {
     fn close(self, _told: &mut Told) {}
 }
 
-// A list of some of these lengths has room, and of others not.
-static LENGTHS: [usize; 8] = [0, 5, 8, 16, 30, 32, 60, 64];
+/// A list of some of these lengths has room, and of others not.
+pub static LENGTHS: [usize; 8] = [0, 5, 8, 16, 30, 32, 60, 64];
 
 // How many requests it makes, behind each of these numbers of bytes.
 fn behind_each<R: Abort>(rt: &R, alloc: Global, heap: Heap<'_>, number: usize, put: Put) -> u64 {
@@ -180,29 +176,39 @@ fn behind_each<R: Abort>(rt: &R, alloc: Global, heap: Heap<'_>, number: usize, p
             put,
             behind: *behind,
         };
-        let more = requests_of::<_, _, Written<Heap<'_>>>(rt, alloc, heap, number, &putting);
+        let more = requests_of::<_, _, _, Written<Heap<'_>>>(rt, alloc, heap, number, &putting);
         requests = requests.saturating_add(more);
     }
     requests
 }
 
+// Whether each asks for memory.
+fn each_asks<R: Abort>(rt: &R, alloc: Global, heap: Heap<'_>) -> bool {
+    for (number, put) in PUTS.iter().enumerate() {
+        if behind_each(rt, alloc, heap, number, *put) < 2 {
+            return false;
+        }
+    }
+    true
+}
+
 #[test]
 fn spellings(rt: HostRuntime) {
-    let heap = Refusing::new(rt.alloc());
-    for (number, put) in PUTS.iter().enumerate() {
-        let requests = behind_each(&rt, rt.alloc(), &heap, number, *put);
-        assert!(rt; requests > 1, "{number} asks for no memory");
+    assert!(rt; each_asks(&rt, rt.alloc(), &Refusing::new(rt.alloc())));
+}
+
+// Whether entries that are appended ask for memory.
+fn entries_ask<R: Abort>(rt: &R, alloc: Global, heap: Heap<'_>) -> bool {
+    let mut requests = 0u64;
+    for behind in &LENGTHS {
+        let call = Appending(*behind);
+        let more = requests_of::<_, _, _, Entered<Heap<'_>>>(rt, alloc, heap, *behind, &call);
+        requests = requests.saturating_add(more);
     }
+    requests > 1
 }
 
 #[test]
 fn entries(rt: HostRuntime) {
-    let heap = Refusing::new(rt.alloc());
-    let mut requests = 0u64;
-    for behind in &LENGTHS {
-        let call = Appending(*behind);
-        let more = requests_of::<_, _, Entered<Heap<'_>>>(&rt, rt.alloc(), &heap, *behind, &call);
-        requests = requests.saturating_add(more);
-    }
-    assert!(rt; requests > 1);
+    assert!(rt; entries_ask(&rt, rt.alloc(), &Refusing::new(rt.alloc())));
 }

@@ -4,9 +4,11 @@ use crate::refusals::told::Told;
 use crate::refusals::trial::{Heap, Trial, requests_of};
 use event_modes::{Entries, Feed, FeedError, Message, Next, Read, read};
 use refusing_alloc::Refusing;
-use std::alloc::{AllocError, Allocator};
+use std::alloc::{AllocError, Allocator, Global};
+use std::process::Abort;
 
-fn tell_message<A: Allocator>(message: &Message<A>, told: &mut Told) {
+/// Tells what a message has.
+pub fn tell_message<A: Allocator>(message: &Message<A>, told: &mut Told) {
     told.bytes(&message.tag);
     told.bytes(message.entries.as_bytes());
     told.number(message.entries.count() as u64);
@@ -58,9 +60,9 @@ fn read_entries<A: Allocator + Copy>(
     Ok(())
 }
 
-// An allocator, by which bytes are read.
+/// An allocator, by which bytes are read.
 #[derive(Drop)]
-struct Reader<A: Allocator + Drop>(A);
+pub struct Reader<A: Allocator + Drop>(pub A);
 
 impl<A: Allocator + Copy> Trial<A, Bytes> for Reader<A> {
     fn made(heap: A, _call: &Bytes, _told: &mut Told) -> Option<Self> {
@@ -176,25 +178,39 @@ static BYTES: [Bytes; 9] = [
 
 static COUNTS: [usize; 13] = [0, 1, 8, 9, 15, 16, 17, 31, 32, 33, 60, 64, 65];
 
+// Whether each asks for memory.
+fn each_asks<R: Abort>(rt: &R, alloc: Global, heap: Heap<'_>) -> bool {
+    for (number, bytes) in BYTES.iter().enumerate() {
+        if requests_of::<_, _, _, Reader<Heap<'_>>>(rt, alloc, heap, number, bytes) == 0 {
+            return false;
+        }
+    }
+    true
+}
+
 #[test]
 fn bytes_that_are_read(rt: HostRuntime) {
-    let heap = Refusing::new(rt.alloc());
-    for (number, bytes) in BYTES.iter().enumerate() {
-        let requests = requests_of::<_, _, Reader<Heap<'_>>>(&rt, rt.alloc(), &heap, number, bytes);
-        assert!(rt; requests > 0, "{number} asks for no memory");
+    assert!(rt; each_asks(&rt, rt.alloc(), &Refusing::new(rt.alloc())));
+}
+
+// How many requests a feed makes behind each of these numbers of bytes.
+fn behind_each<R: Abort>(rt: &R, alloc: Global, heap: Heap<'_>) -> u64 {
+    let mut requests = 0u64;
+    for count in &COUNTS {
+        let call = Fed::Feed(*count);
+        let more = requests_of::<_, _, _, Feed<Heap<'_>>>(rt, alloc, heap, *count, &call);
+        requests = requests.saturating_add(more);
     }
+    requests
+}
+
+// Whether a stream asks for memory, as it is fed and as a message is taken off.
+fn streams_ask<R: Abort>(rt: &R, alloc: Global, heap: Heap<'_>) -> bool {
+    behind_each(rt, alloc, heap) > 1
+        && requests_of::<_, _, _, Feed<Heap<'_>>>(rt, alloc, heap, 99, &Fed::Next) > 2
 }
 
 #[test]
 fn streams(rt: HostRuntime) {
-    let heap = Refusing::new(rt.alloc());
-    let mut requests = 0u64;
-    for count in &COUNTS {
-        let call = Fed::Feed(*count);
-        let more = requests_of::<_, _, Feed<Heap<'_>>>(&rt, rt.alloc(), &heap, *count, &call);
-        requests = requests.saturating_add(more);
-    }
-    assert!(rt; requests > 1);
-    let more = requests_of::<_, _, Feed<Heap<'_>>>(&rt, rt.alloc(), &heap, 99, &Fed::Next);
-    assert!(rt; more > 2);
+    assert!(rt; streams_ask(&rt, rt.alloc(), &Refusing::new(rt.alloc())));
 }

@@ -1,12 +1,12 @@
 //! Each call of a script of a shared buffer; and what makes deliveries and room for answers.
 
-use crate::refusals::files::NewDir;
+use crate::devices::NewDir;
+use crate::refusals::parts::{Part, in_memory};
 use crate::refusals::shop::{Books, Shop};
 use crate::refusals::told::Told;
-use crate::refusals::trial::{Heap, Trial, requests_of};
+use crate::refusals::trial::{Refuses, Trial, requests_of};
 use buffer_store::BufferFault;
-use disk_files::{Dir, MemoryDir};
-use refusing_alloc::Refusing;
+use disk_files::Dir;
 use std::alloc::{AllocError, Allocator, Global};
 use std::process::Abort;
 use std::sync::Wait;
@@ -199,40 +199,65 @@ impl<'r, R: Wait + Abort, A: Allocator + Copy, D: NewDir<A>> Trial<A, Audit<'r, 
     }
 }
 
-type Shared<'r, 'a, R> = Trying<'r, R, Heap<'a>, MemoryDir<Heap<'a>>>;
-
-type Closed<'a> = Books<Heap<'a>, MemoryDir<Heap<'a>>>;
-
 // How many requests the call at this place makes.
-fn requests_at<R: Wait + Abort>(rt: &R, alloc: Global, heap: Heap<'_>, place: usize) -> u64 {
+fn requests_at<R: Wait + Abort, H: Refuses, D: NewDir<H>>(
+    rt: &R,
+    alloc: Global,
+    heap: H,
+    place: usize,
+) -> u64 {
     let call = Place { rt, place };
-    let requests = requests_of::<_, _, Shared<'_, '_, R>>(rt, alloc, heap, place, &call);
+    let requests = requests_of::<_, _, _, Trying<'_, R, H, D>>(rt, alloc, heap, place, &call);
     let Place { rt: _, place: _ } = call;
     requests
 }
 
 // How many requests an audit behind the calls before this place makes.
-fn audit_requests_at<R: Wait + Abort>(rt: &R, alloc: Global, heap: Heap<'_>, place: usize) -> u64 {
+fn audit_requests_at<R: Wait + Abort, H: Refuses, D: NewDir<H>>(
+    rt: &R,
+    alloc: Global,
+    heap: H,
+    place: usize,
+) -> u64 {
     let call = Audit { rt, place };
-    let requests = requests_of::<_, _, Closed<'_>>(rt, alloc, heap, place, &call);
+    let requests = requests_of::<_, _, _, Books<H, D>>(rt, alloc, heap, place, &call);
     let Audit { rt: _, place: _ } = call;
     requests
 }
 
+/// Whether audits ask for memory.
+pub fn audits_ask<R: Wait + Abort, H: Refuses, D: NewDir<H>>(
+    rt: &R,
+    alloc: Global,
+    heap: H,
+) -> bool {
+    for place in 12..14 {
+        if audit_requests_at::<R, H, D>(rt, alloc, heap, place) == 0 {
+            return false;
+        }
+    }
+    true
+}
+
 #[test]
 fn audits(rt: HostRuntime) {
-    let heap = Refusing::new(rt.alloc());
-    for place in 12..14 {
-        assert!(rt; audit_requests_at(&rt, rt.alloc(), &heap, place) > 0);
+    assert!(rt; in_memory(&rt, rt.alloc(), Part::SharedAudits));
+}
+
+/// Whether the calls of the script ask for memory more than thirty times.
+pub fn calls_ask<R: Wait + Abort, H: Refuses, D: NewDir<H>>(
+    rt: &R,
+    alloc: Global,
+    heap: H,
+) -> bool {
+    let mut requests = 0u64;
+    for place in 0..SCRIPT.len() {
+        requests = requests.saturating_add(requests_at::<R, H, D>(rt, alloc, heap, place));
     }
+    requests > 30
 }
 
 #[test]
 fn calls(rt: HostRuntime) {
-    let heap = Refusing::new(rt.alloc());
-    let mut requests = 0u64;
-    for place in 0..SCRIPT.len() {
-        requests = requests.saturating_add(requests_at(&rt, rt.alloc(), &heap, place));
-    }
-    assert!(rt; requests > 30, "{requests}");
+    assert!(rt; in_memory(&rt, rt.alloc(), Part::SharedCalls));
 }

@@ -1,8 +1,10 @@
 //! A shared buffer, what was appended to it, and what was claimed from it.
 
-use crate::refusals::acts::{entry, open};
-use crate::refusals::files::{NewDir, tell_left};
+use crate::devices::NewDir;
+use crate::refusals::acts::entry;
+use crate::refusals::files::tell_left;
 use crate::refusals::told::Told;
+use crate::script::{WIDE, open};
 use ack_receipt::{
     AuditError, Basis, Claim, Closed, Delivery, Evidence, Leaf, Numbers, Pending, PurgeFault,
     Receipt, RedeemFault, SharedBuffer, Stub, Takes,
@@ -201,7 +203,7 @@ fn tell_chunks<A: Allocator + Copy, D: Dir>(closed: &Closed<D, A>, told: &mut To
 impl<A: Allocator + Copy, D: NewDir<A>> Shop<A, D> {
     /// A shop over a new folder, whose chunks go once they are written or given up.
     pub fn open(heap: A) -> Option<Shop<A, D>> {
-        match open(heap, D::new_dir(heap), 0) {
+        match open(heap, D::made(heap), WIDE, 0) {
             Ok(buffer) => Some(Shop::over(heap, buffer)),
             Err((_fault, _dir)) => None,
         }

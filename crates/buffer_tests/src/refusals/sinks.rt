@@ -1,14 +1,16 @@
 //! A sink is opened, written to and read.
 
-use crate::refusals::files::{NewDir, tell_left};
+use crate::devices::NewDir;
+use crate::refusals::files::tell_left;
+use crate::refusals::parts::{Part, in_memory};
 use crate::refusals::told::Told;
-use crate::refusals::trial::{Heap, Trial, requests_of};
-use disk_files::{Dir, MemoryDir};
+use crate::refusals::trial::{Refuses, Trial, requests_of};
+use disk_files::Dir;
 use event_modes::Entries;
-use refusing_alloc::Refusing;
 use sink_series::{Series, SeriesFault, Stored};
-use std::alloc::{AllocError, Allocator};
+use std::alloc::{AllocError, Allocator, Global};
 use std::mem::replace;
+use std::process::Abort;
 
 // How often a sink was written to before.
 static WRITES: [u8; 5] = [0, 1, 4, 6, 9];
@@ -79,7 +81,7 @@ fn are_written<A: Allocator + Copy, D: Dir>(
 
 // A sink in a new folder.
 fn new_sink<A: Allocator + Copy, D: NewDir<A>>(heap: A) -> Option<Series<D, A>> {
-    match Series::open(heap, D::new_dir(heap), b"out") {
+    match Series::open(heap, D::made(heap), b"out") {
         Ok(series) => Some(series),
         Err((_fault, _dir)) => None,
     }
@@ -213,32 +215,50 @@ impl<A: Allocator + Copy, D: NewDir<A>> Trial<A, Opening> for Folder<A, D> {
     }
 }
 
-type Sink<'a> = Ready<Heap<'a>, MemoryDir<Heap<'a>>>;
+// Whether this call behind so many writes asks for memory.
+fn asks<R: Abort, H: Refuses, D: NewDir<H>>(
+    rt: &R,
+    alloc: Global,
+    heap: H,
+    writes: u8,
+    call: Call,
+) -> bool {
+    requests_of::<_, _, _, Ready<H, D>>(rt, alloc, heap, usize::from(writes), &call) > 0
+}
 
-type Opened<'a> = Folder<Heap<'a>, MemoryDir<Heap<'a>>>;
+/// Whether each call does behind each number of writes.
+pub fn each_asks<R: Abort, H: Refuses, D: NewDir<H>>(rt: &R, alloc: Global, heap: H) -> bool {
+    for writes in &WRITES {
+        if !asks::<R, H, D>(rt, alloc, heap, *writes, Call::Write(*writes))
+            || !asks::<R, H, D>(rt, alloc, heap, *writes, Call::Content(*writes))
+        {
+            return false;
+        }
+    }
+    true
+}
 
 #[test]
 fn calls(rt: HostRuntime) {
-    let heap = Refusing::new(rt.alloc());
-    for writes in &WRITES {
-        for call in [Call::Write(*writes), Call::Content(*writes)] {
-            let number = usize::from(*writes);
-            let requests = requests_of::<_, _, Sink<'_>>(&rt, rt.alloc(), &heap, number, &call);
-            assert!(rt;
-                requests > 0,
-                "behind {number} writes it asks for no memory"
-            );
+    assert!(rt; in_memory(&rt, rt.alloc(), Part::SinkCalls));
+}
+
+// How often a sink that is opened was written to before.
+static BEFORE: [u8; 3] = [0, 1, 9];
+
+/// Whether each opening asks for memory.
+pub fn openings_ask<R: Abort, H: Refuses, D: NewDir<H>>(rt: &R, alloc: Global, heap: H) -> bool {
+    for writes in &BEFORE {
+        let number = usize::from(*writes);
+        let call = Opening(*writes);
+        if requests_of::<_, _, _, Folder<H, D>>(rt, alloc, heap, number, &call) == 0 {
+            return false;
         }
     }
+    true
 }
 
 #[test]
 fn openings(rt: HostRuntime) {
-    let heap = Refusing::new(rt.alloc());
-    for writes in [0u8, 1, 9] {
-        let number = usize::from(writes);
-        let call = Opening(writes);
-        let requests = requests_of::<_, _, Opened<'_>>(&rt, rt.alloc(), &heap, number, &call);
-        assert!(rt; requests > 0);
-    }
+    assert!(rt; in_memory(&rt, rt.alloc(), Part::SinkOpenings));
 }

@@ -5,8 +5,36 @@ use refusing_alloc::Refusing;
 use std::alloc::{AllocError, Allocator, Global};
 use std::process::Abort;
 
-/// An allocator that refuses what it is told to.
+/// The allocator of the tests, which refuses what it is told to.
 pub type Heap<'a> = &'a Refusing<Global>;
+
+/// An allocator that refuses what it is told to.
+pub trait Refuses: Allocator + Copy {
+    /// From now on the request behind so many is refused.
+    fn refuse_once(self, served: u64);
+
+    /// From now on the requests behind so many are refused.
+    fn refuse_after(self, served: u64);
+
+    /// From now on each request is served. It says whether one was refused.
+    fn end(self) -> bool;
+}
+
+impl Refuses for &Refusing<Global> {
+    fn refuse_once(self, served: u64) {
+        Refusing::refuse_once(self, served);
+    }
+
+    fn refuse_after(self, served: u64) {
+        Refusing::refuse_after(self, served);
+    }
+
+    fn end(self) -> bool {
+        let refused = self.refused();
+        self.serve();
+        refused > 0
+    }
+}
 
 // The request that is refused.
 #[derive(Clone, Copy)]
@@ -19,20 +47,13 @@ struct Refusal {
 
 impl Refusal {
     // From now on this request is refused.
-    fn begin(self, heap: Heap<'_>) {
+    fn begin<H: Refuses>(self, heap: H) {
         if self.is_alone {
             heap.refuse_once(self.served);
         } else {
             heap.refuse_after(self.served);
         }
     }
-}
-
-// From now on each request is served. It says whether one was refused.
-fn end(heap: Heap<'_>) -> bool {
-    let refused = heap.refused();
-    heap.serve();
-    refused > 0
 }
 
 /// A state on which a call can be tried, with what the call moves in. It can be made again and
@@ -53,9 +74,9 @@ pub trait Trial<A: Allocator + Copy, C>: Sized {
 }
 
 // A call that is tried, with the allocator that it has and the one by which it is told.
-struct Bench<'b, 'a, C> {
+struct Bench<'b, H, C> {
     alloc: Global,
-    heap: Heap<'a>,
+    heap: H,
     call: &'b C,
 }
 
@@ -115,25 +136,25 @@ fn went_if(holds: bool, went: Went) -> Went {
 // A call makes fewer requests than this.
 const REQUESTS: u64 = 10_000;
 
-impl<'a, C> Bench<'_, 'a, C> {
-    fn made<T: Trial<Heap<'a>, C>>(&self) -> Option<T> {
+impl<H: Refuses, C> Bench<'_, H, C> {
+    fn made<T: Trial<H, C>>(&self) -> Option<T> {
         let mut told = Told::new(self.alloc);
         T::made(self.heap, self.call, &mut told)
     }
 
-    fn shown<T: Trial<Heap<'a>, C>>(&self, state: &mut T) -> Told {
+    fn shown<T: Trial<H, C>>(&self, state: &mut T) -> Told {
         let mut told = Told::new(self.alloc);
         state.show(&mut told);
         told
     }
 
-    fn closed<T: Trial<Heap<'a>, C>>(&self, state: T) -> Told {
+    fn closed<T: Trial<H, C>>(&self, state: T) -> Told {
         let mut told = Told::new(self.alloc);
         state.close(&mut told);
         told
     }
 
-    fn see<T: Trial<Heap<'a>, C>>(&self, state: T) -> Seen {
+    fn see<T: Trial<H, C>>(&self, state: T) -> Seen {
         let mut state = state;
         Seen {
             shown: self.shown(&mut state),
@@ -142,7 +163,7 @@ impl<'a, C> Bench<'_, 'a, C> {
     }
 
     // The answer of the call; none for want of memory.
-    fn answered<T: Trial<Heap<'a>, C>>(&self, state: &mut T) -> Option<Told> {
+    fn answered<T: Trial<H, C>>(&self, state: &mut T) -> Option<Told> {
         let mut told = Told::new(self.alloc);
         match state.call(self.call, &mut told) {
             Ok(()) => Some(told),
@@ -150,14 +171,14 @@ impl<'a, C> Bench<'_, 'a, C> {
         }
     }
 
-    fn before<T: Trial<Heap<'a>, C>>(&self) -> Option<Seen> {
+    fn before<T: Trial<H, C>>(&self) -> Option<Seen> {
         match self.made::<T>() {
             Some(state) => Some(self.see(state)),
             None => None,
         }
     }
 
-    fn behind<T: Trial<Heap<'a>, C>>(&self) -> Option<Behind> {
+    fn behind<T: Trial<H, C>>(&self) -> Option<Behind> {
         let Some(mut state) = self.made::<T>() else {
             return None;
         };
@@ -169,7 +190,7 @@ impl<'a, C> Bench<'_, 'a, C> {
     }
 
     // What is told where nothing is refused.
-    fn with_ample_memory<T: Trial<Heap<'a>, C>>(&self) -> Option<Ample> {
+    fn with_ample_memory<T: Trial<H, C>>(&self) -> Option<Ample> {
         match (self.before::<T>(), self.behind::<T>()) {
             (Some(before), Some(behind)) => Some(Ample { before, behind }),
             _ => None,
@@ -177,28 +198,23 @@ impl<'a, C> Bench<'_, 'a, C> {
     }
 
     // How the first try goes, with this request refused. Where none is, its answer is compared.
-    fn first_try<T: Trial<Heap<'a>, C>>(
-        &self,
-        refusal: Refusal,
-        state: &mut T,
-        ample: &Ample,
-    ) -> Went {
+    fn first_try<T: Trial<H, C>>(&self, refusal: Refusal, state: &mut T, ample: &Ample) -> Went {
         refusal.begin(self.heap);
         let answer = self.answered(state);
-        if end(self.heap) {
+        if self.heap.end() {
             return went_if(answer.is_none(), Went::Refused);
         }
         went_if(ample.behind.has_answer(answer), Went::Through)
     }
 
     // Whether a call that was refused left all as it was, and is answered the next time.
-    fn goes_again<T: Trial<Heap<'a>, C>>(&self, state: &mut T, ample: &Ample) -> bool {
+    fn goes_again<T: Trial<H, C>>(&self, state: &mut T, ample: &Ample) -> bool {
         let stayed = self.shown(state).is(&ample.before.shown);
         ample.behind.has_answer(self.answered(state)) && stayed
     }
 
     // How the call goes with this request refused, and where it is, once more.
-    fn goes<T: Trial<Heap<'a>, C>>(&self, refusal: Refusal, ample: &Ample) -> Went {
+    fn goes<T: Trial<H, C>>(&self, refusal: Refusal, ample: &Ample) -> Went {
         let Some(mut state) = self.made::<T>() else {
             return Went::Wrong;
         };
@@ -210,7 +226,7 @@ impl<'a, C> Bench<'_, 'a, C> {
 
     // Whether what is left behind the call with this request refused is what was left before it,
     // where the call doesn't go through.
-    fn leaves<T: Trial<Heap<'a>, C>>(&self, refusal: Refusal, ample: &Ample) -> bool {
+    fn leaves<T: Trial<H, C>>(&self, refusal: Refusal, ample: &Ample) -> bool {
         let Some(mut state) = self.made::<T>() else {
             return false;
         };
@@ -220,11 +236,7 @@ impl<'a, C> Bench<'_, 'a, C> {
 
     // How many requests the call makes, each of which is refused; or the one at which it goes
     // wrong.
-    fn refused<T: Trial<Heap<'a>, C>>(
-        &self,
-        is_alone: bool,
-        ample: &Ample,
-    ) -> Result<u64, Refusal> {
+    fn refused<T: Trial<H, C>>(&self, is_alone: bool, ample: &Ample) -> Result<u64, Refusal> {
         for served in 0..REQUESTS {
             let refusal = Refusal { served, is_alone };
             match self.goes::<T>(refusal, ample) {
@@ -240,7 +252,7 @@ impl<'a, C> Bench<'_, 'a, C> {
     }
 
     // The same, with all behind it refused and alone.
-    fn refused_both_ways<T: Trial<Heap<'a>, C>>(&self, ample: &Ample) -> Result<u64, Refusal> {
+    fn refused_both_ways<T: Trial<H, C>>(&self, ample: &Ample) -> Result<u64, Refusal> {
         match self.refused::<T>(false, ample) {
             Ok(_) => self.refused::<T>(true, ample),
             Err(refusal) => Err(refusal),
@@ -248,7 +260,7 @@ impl<'a, C> Bench<'_, 'a, C> {
     }
 
     // The same; the first request is the wrong one where it goes wrong with ample memory.
-    fn refused_in_turn<T: Trial<Heap<'a>, C>>(&self) -> Result<u64, Refusal> {
+    fn refused_in_turn<T: Trial<H, C>>(&self) -> Result<u64, Refusal> {
         match self.with_ample_memory::<T>() {
             Some(ample) => self.refused_both_ways::<T>(&ample),
             None => Err(Refusal {
@@ -263,10 +275,10 @@ impl<'a, C> Bench<'_, 'a, C> {
 ///
 /// Where it goes wrong, the process ends, and says the call's number and that of the request, which
 /// is 0 where it goes wrong with ample memory.
-pub fn requests_of<'a, R: Abort, C, T: Trial<Heap<'a>, C>>(
+pub fn requests_of<R: Abort, H: Refuses, C, T: Trial<H, C>>(
     rt: &R,
     alloc: Global,
-    heap: Heap<'a>,
+    heap: H,
     number: usize,
     call: &C,
 ) -> u64 {
