@@ -362,8 +362,27 @@ fn in_folder(rt: &HostRuntime, name: &str, folder: &str, words: &[String]) -> io
         },
         renewed_past: RENEWED_PAST_IN_FILES,
     };
-    let mut buffer = open(rt, RealDir::new(rt, rt.alloc(), folder)?, settings)?;
-    act(rt, &mut buffer, word, counts)
+    act_in(
+        rt,
+        RealDir::new(rt, rt.alloc(), folder)?,
+        settings,
+        word,
+        counts,
+    )
+}
+
+// Does with the buffer in this folder what the word says.
+fn act_in<D: Dir + Drop>(
+    rt: &HostRuntime,
+    dir: D,
+    settings: Settings,
+    word: Word,
+    counts: Counts,
+) -> io::Result<u8> {
+    let mut buffer = open(rt, dir, settings)?;
+    let status = act(rt, &mut buffer, word, counts);
+    drop(buffer.into_dir());
+    status
 }
 
 // The same of the word `queue`, on a buffer in memory.
@@ -378,8 +397,20 @@ fn in_memory(rt: &HostRuntime, words: &[String]) -> io::Result<u8> {
         },
         renewed_past: u64::MAX,
     };
-    let mut buffer = open(rt, MemoryDir::new(rt.alloc()), settings)?;
-    queue_all(rt, &mut buffer, counts.count)
+    queue_in(rt, MemoryDir::new(rt.alloc()), settings, counts.count)
+}
+
+// Queues so many chunks of the buffer in this folder.
+fn queue_in<D: Dir + Drop>(
+    rt: &HostRuntime,
+    dir: D,
+    settings: Settings,
+    count: u32,
+) -> io::Result<u8> {
+    let mut buffer = open(rt, dir, settings)?;
+    let status = queue_all(rt, &mut buffer, count);
+    drop(buffer.into_dir());
+    status
 }
 
 /// What becomes of these words, and the exit status of it.

@@ -76,17 +76,23 @@ fn put<D: Dir>(buffer: &mut Buffer<D, Global>, entries: &Entries<Global>) -> io:
     }
 }
 
-// A buffer in this folder with so many queued chunks of one entry.
-fn filled<D: Dir + Drop>(alloc: Global, dir: D, chunks: u64) -> io::Result<Shelf<D>> {
+// Does so with one entry so many times.
+fn put_all<D: Dir>(alloc: Global, buffer: &mut Buffer<D, Global>, chunks: u64) -> io::Result<()> {
     let Some(entries) = Entries::read(alloc, &[0x92, 0x01, 0x80], 1)? else {
         return Err(io::ErrorKind::InvalidData.into());
     };
+    for _ in 0..chunks {
+        put(buffer, &entries)?;
+    }
+    Ok(())
+}
+
+// A buffer in this folder with so many queued chunks of one entry.
+fn filled<D: Dir + Drop>(alloc: Global, dir: D, chunks: u64) -> io::Result<Shelf<D>> {
     let Ok(mut buffer) = Buffer::open(alloc, dir, b"bench", SETTINGS) else {
         return Err(io::ErrorKind::Other.into());
     };
-    for _ in 0..chunks {
-        put(&mut buffer, &entries)?;
-    }
+    put_all(alloc, &mut buffer, chunks)?;
     let takes = Takes {
         basis: Basis::Written,
         expires: false,
@@ -108,6 +114,17 @@ fn purge<R: Wait + Clock + Threads + Print + Sync, D: Dir + Drop + Send>(
     chunks: u64,
 ) -> io::Result<u8> {
     let shelf = filled(alloc, dir, chunks)?;
+    purge_all(rt, alloc, &shelf, workers, chunks)
+}
+
+// Purges so many queued chunks of this buffer.
+fn purge_all<R: Wait + Clock + Threads + Print + Sync, D: Dir + Drop + Send>(
+    rt: &R,
+    alloc: Global,
+    shelf: &Shelf<D>,
+    workers: usize,
+    chunks: u64,
+) -> io::Result<u8> {
     let stop = AtomicBool::new(chunks == 0);
     let courier = Idle {
         left: AtomicU64::new(chunks),
@@ -115,7 +132,7 @@ fn purge<R: Wait + Clock + Threads + Print + Sync, D: Dir + Drop + Send>(
     };
     let retries = Retries::new(alloc, RETRIES);
     let start = Instant::now(rt)?;
-    let worked = run_pool(rt, workers, &shelf, &courier, &OpenGate, &retries, &stop);
+    let worked = run_pool(rt, workers, shelf, &courier, &OpenGate, &retries, &stop);
     let speed = a_second(chunks, start.elapsed(rt)?);
     match worked {
         Ok(worked) => {
@@ -141,31 +158,45 @@ fn claim<R: Wait + Clock + Print, D: Dir + Drop>(
 ) -> io::Result<u8> {
     let shelf = filled(alloc, dir, chunks)?;
     let start = Instant::now(rt)?;
-    for _ in 0..count {
-        let Some(claim) = shelf.claim(rt)? else {
-            return Ok(1);
-        };
-        shelf.give_back(rt, claim);
+    if !claim_all(rt, &shelf, count)? {
+        return Ok(1);
     }
     let speed = a_second(count, start.elapsed(rt)?);
     println!(rt; "{chunks} queued: {speed} claims a second")?;
     Ok(0)
 }
 
-// A message with one entry, as it comes in, for the buffer.
+// Claims and gives back so many times: whether there was a chunk each time.
+fn claim_all<R: Wait, D: Dir>(rt: &R, shelf: &Shelf<D>, count: u64) -> io::Result<bool> {
+    for _ in 0..count {
+        let Some(claim) = shelf.claim(rt)? else {
+            return Ok(false);
+        };
+        shelf.give_back(rt, claim);
+    }
+    Ok(true)
+}
+
+// A message with one entry, as it comes in.
+fn message(alloc: Global) -> io::Result<Message<Global>> {
+    let tag = Vec::from_slice(alloc, b"bench")?;
+    match Entries::read(alloc, &[0x92, 0x01, 0x80], 1)? {
+        Some(entries) => Ok(Message {
+            tag,
+            entries,
+            ack: None,
+        }),
+        None => Err(io::ErrorKind::InvalidData.into()),
+    }
+}
+
+// A delivery of such a message, for the buffer.
 fn begun(alloc: Global, numbers: &mut Numbers) -> io::Result<Delivery<Global>> {
-    let Some(entries) = Entries::read(alloc, &[0x92, 0x01, 0x80], 1)? else {
-        return Err(io::ErrorKind::InvalidData.into());
-    };
-    let message = Message {
-        tag: Vec::from_slice(alloc, b"bench")?,
-        entries,
-        ack: None,
-    };
-    let leaves = Vec::from_slice(alloc, &[LEAF])?;
     let Some(number) = numbers.draw() else {
         return Err(io::ErrorKind::Other.into());
     };
+    let message = message(alloc)?;
+    let leaves = Vec::from_slice(alloc, &[LEAF])?;
     match Delivery::begin(alloc, number, message, leaves) {
         Ok(delivery) => Ok(delivery),
         Err(_) => Err(io::ErrorKind::OutOfMemory.into()),

@@ -9,15 +9,22 @@ mod script;
 mod sinks;
 mod tally;
 
+use disk_files::MemoryDir;
+use std::alloc::Allocator;
 use std::io;
-use tally::Tally;
+use std::io::Print;
+use tally::{Stopping, Tally};
 
 // What the word asks for.
-fn tally_of(rt: &HostRuntime, word: &str) -> io::Result<Option<Tally>> {
+fn tally_of<R: Print, A: Allocator + Copy, D: Stopping<A>>(
+    rt: &R,
+    alloc: A,
+    word: &str,
+) -> io::Result<Option<Tally>> {
     Ok(match word {
-        "buffers" => Some(buffers::all(rt)?),
-        "generations" => Some(generations::all(rt.alloc())?),
-        "sinks" => Some(sinks::all(rt)?),
+        "buffers" => Some(buffers::all::<R, A, D>(rt, alloc)?),
+        "generations" => Some(generations::all::<A, D>(alloc)?),
+        "sinks" => Some(sinks::all::<R, A, D>(rt, alloc)?),
         _ => None,
     })
 }
@@ -27,7 +34,7 @@ pub fn answer(rt: &HostRuntime, words: &[String]) -> io::Result<u8> {
     let [word] = words else {
         return Ok(2);
     };
-    let Some(tally) = tally_of(rt, word)? else {
+    let Some(tally) = tally_of::<_, _, MemoryDir<_>>(rt, rt.alloc(), word)? else {
         return Ok(2);
     };
     println!(rt; "{} folders, {} wrong", tally.folders, tally.wrong)?;

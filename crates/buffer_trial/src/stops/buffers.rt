@@ -3,11 +3,12 @@
 use crate::stops::looking::{Wrong, wrong_in};
 use crate::stops::playing::{open, play};
 use crate::stops::script::{Act, SCRIPT, Table};
-use crate::stops::tally::{Failing, STOPS, Stop, Tally, lengths, on_device, stopped};
+use crate::stops::tally::{Failing, STOPS, Stop, Stopping, Tally, lengths, on_device, stopped};
 use buffer_store::BufferFault;
-use disk_files::{Dir, Keep, MemoryDir};
-use std::alloc::Global;
+use disk_files::{Dir, Keep};
+use std::alloc::Allocator;
 use std::io;
+use std::io::Print;
 
 // The generations of the journal.
 static NAMES: [&[u8]; 5] = [
@@ -29,7 +30,12 @@ struct Went {
 }
 
 // Opens the buffer in the folder, and takes it through the acts. The folder as they leave it.
-fn sit<D: Dir>(alloc: Global, dir: D, table: &mut Table, acts: &[Act]) -> (Went, D) {
+fn sit<A: Allocator + Copy, D: Dir>(
+    alloc: A,
+    dir: D,
+    table: &mut Table,
+    acts: &[Act],
+) -> (Went, D) {
     match open(alloc, dir) {
         Ok(mut buffer) => {
             let is_well = play(alloc, &mut buffer, table, acts);
@@ -54,7 +60,7 @@ struct Run {
 }
 
 // This folder behind the first acts, the last of which syncs.
-fn begun<D: Dir>(alloc: Global, dir: D, table: &mut Table, acts: &[Act]) -> D {
+fn begun<A: Allocator + Copy, D: Dir>(alloc: A, dir: D, table: &mut Table, acts: &[Act]) -> D {
     if acts.is_empty() {
         return dir;
     }
@@ -64,17 +70,17 @@ fn begun<D: Dir>(alloc: Global, dir: D, table: &mut Table, acts: &[Act]) -> D {
 
 // What a run comes to: whether its calls were answered as they ought to be, the folder that it
 // leaves, and what is known of its chunks.
-fn left(alloc: Global, run: &Run) -> (Went, MemoryDir<Global>, Table) {
+fn left<A: Allocator + Copy, D: Stopping<A>>(alloc: A, run: &Run) -> (Went, D, Table) {
     let (before, acts) = SCRIPT.split_at(run.before.min(SCRIPT.len()));
     let mut table = Table::new();
-    let dir = begun(alloc, MemoryDir::new(alloc), &mut table, before);
+    let dir = begun(alloc, D::made(alloc), &mut table, before);
     let (went, dir) = sit(alloc, on_device(dir, run.calls), &mut table, acts);
-    (went, stopped(dir.into_inner(), run.stop), table)
+    (went, stopped::<A, D>(dir.into_inner(), run.stop), table)
 }
 
 // What is wrong with the folder that a run leaves, and whether no call failed in it.
-fn outcome(alloc: Global, run: &Run) -> (Option<Wrong>, bool) {
-    let (went, dir, table) = left(alloc, run);
+fn outcome<A: Allocator + Copy, D: Stopping<A>>(alloc: A, run: &Run) -> (Option<Wrong>, bool) {
+    let (went, dir, table) = left::<A, D>(alloc, run);
     if went.is_well {
         (wrong_in(alloc, dir, &table), went.is_whole)
     } else {
@@ -83,7 +89,7 @@ fn outcome(alloc: Global, run: &Run) -> (Option<Wrong>, bool) {
 }
 
 // The least and the greatest length that a stop may leave of the file that was written to last.
-fn ends(alloc: Global, run: &Run) -> (usize, usize) {
+fn ends<A: Allocator + Copy, D: Stopping<A>>(alloc: A, run: &Run) -> (usize, usize) {
     let few = Run {
         stop: Stop::Keeping(Keep::Last(0)),
         ..*run
@@ -92,14 +98,19 @@ fn ends(alloc: Global, run: &Run) -> (usize, usize) {
         stop: Stop::Keeping(Keep::Greatest),
         ..*run
     };
-    let (_, few, _) = left(alloc, &few);
-    let (_, all, _) = left(alloc, &all);
+    let (_, few, _) = left::<A, D>(alloc, &few);
+    let (_, all, _) = left::<A, D>(alloc, &all);
     lengths(few, all, &NAMES)
 }
 
 // Looks at the folder that a run leaves, and says whether no call failed in it.
-fn look(rt: &HostRuntime, tally: &mut Tally, run: &Run) -> io::Result<bool> {
-    let (wrong, is_whole) = outcome(rt.alloc(), run);
+fn look<R: Print, A: Allocator + Copy, D: Stopping<A>>(
+    rt: &R,
+    alloc: A,
+    tally: &mut Tally,
+    run: &Run,
+) -> io::Result<bool> {
+    let (wrong, is_whole) = outcome::<A, D>(alloc, run);
     if let Some(wrong) = wrong {
         println!(rt; "{wrong:?} in {run:?}")?;
     }
@@ -108,22 +119,21 @@ fn look(rt: &HostRuntime, tally: &mut Tally, run: &Run) -> io::Result<bool> {
 }
 
 // Each stop behind calls of which some fail, and whether none failed.
-fn stops(rt: &HostRuntime, tally: &mut Tally, run: &Run) -> io::Result<bool> {
+fn stops<R: Print, A: Allocator + Copy, D: Stopping<A>>(
+    rt: &R,
+    alloc: A,
+    tally: &mut Tally,
+    run: &Run,
+) -> io::Result<bool> {
     let mut is_whole = false;
     for stop in &STOPS {
-        is_whole = look(
-            rt,
-            tally,
-            &Run {
-                stop: *stop,
-                ..*run
-            },
-        )?;
+        let stop = *stop;
+        is_whole = look::<R, A, D>(rt, alloc, tally, &Run { stop, ..*run })?;
     }
-    let (least, most) = ends(rt.alloc(), run);
+    let (least, most) = ends::<A, D>(alloc, run);
     for kept in least..most {
         let stop = Stop::Keeping(Keep::Last(kept));
-        look(rt, tally, &Run { stop, ..*run })?;
+        look::<R, A, D>(rt, alloc, tally, &Run { stop, ..*run })?;
     }
     Ok(is_whole)
 }
@@ -138,12 +148,14 @@ fn device(before: usize, calls: Failing) -> Run {
 
 /// Each stop behind each call of the script that fails, alone or with all behind it, until none
 /// does: so from a new folder on, and from one in which the first acts were done.
-pub fn all(rt: &HostRuntime) -> io::Result<Tally> {
+pub fn all<R: Print, A: Allocator + Copy, D: Stopping<A>>(rt: &R, alloc: A) -> io::Result<Tally> {
     let mut tally = Tally::new();
     for before in [0, 13] {
         for passes in 0..CALLS {
-            let from = stops(rt, &mut tally, &device(before, Failing::Past(passes)))?;
-            let alone = stops(rt, &mut tally, &device(before, Failing::At(passes)))?;
+            let past = device(before, Failing::Past(passes));
+            let from = stops::<R, A, D>(rt, alloc, &mut tally, &past)?;
+            let at = device(before, Failing::At(passes));
+            let alone = stops::<R, A, D>(rt, alloc, &mut tally, &at)?;
             if from && alone {
                 break;
             }

@@ -5,7 +5,7 @@ use crate::stops::script::{Known, SERIALS, Table};
 use buffer_state::Stage;
 use buffer_store::Buffer;
 use disk_files::Dir;
-use std::alloc::Global;
+use std::alloc::Allocator;
 
 /// What is wrong.
 #[derive(Clone, Copy, Debug, PartialEq, Eq)]
@@ -26,7 +26,7 @@ pub enum Wrong {
     NextAppend,
 }
 
-fn tag_of<D: Dir>(buffer: &Buffer<D, Global>, serial: u64) -> Option<u8> {
+fn tag_of<A: Allocator + Copy, D: Dir>(buffer: &Buffer<D, A>, serial: u64) -> Option<u8> {
     match buffer.chunks().facts(serial)?.tag {
         [tag] => Some(*tag),
         _ => None,
@@ -44,7 +44,11 @@ fn are_first(items: &[u8], numbers: &[u8]) -> bool {
 }
 
 // Whether the chunk has the entries that were synced, and of the others a beginning.
-fn has_entries<D: Dir>(buffer: &mut Buffer<D, Global>, serial: u64, known: &Known) -> bool {
+fn has_entries<A: Allocator + Copy, D: Dir>(
+    buffer: &mut Buffer<D, A>,
+    serial: u64,
+    known: &Known,
+) -> bool {
     match buffer.body(serial) {
         Ok(body) => known.synced.max(1) <= body.count()
             && body.count() <= known.begun
@@ -54,8 +58,8 @@ fn has_entries<D: Dir>(buffer: &mut Buffer<D, Global>, serial: u64, known: &Know
 }
 
 // What is wrong with a chunk that is there.
-fn wrong_there<D: Dir>(
-    buffer: &mut Buffer<D, Global>,
+fn wrong_there<A: Allocator + Copy, D: Dir>(
+    buffer: &mut Buffer<D, A>,
     serial: u64,
     known: &Known,
     stage: Stage,
@@ -70,8 +74,8 @@ fn wrong_there<D: Dir>(
 }
 
 // What is wrong with the chunk of this serial.
-fn wrong_chunk<D: Dir>(
-    buffer: &mut Buffer<D, Global>,
+fn wrong_chunk<A: Allocator + Copy, D: Dir>(
+    buffer: &mut Buffer<D, A>,
     serial: u64,
     known: &Known,
 ) -> Option<Wrong> {
@@ -85,7 +89,10 @@ fn wrong_chunk<D: Dir>(
     }
 }
 
-fn wrong_chunks<D: Dir>(buffer: &mut Buffer<D, Global>, table: &Table) -> Option<Wrong> {
+fn wrong_chunks<A: Allocator + Copy, D: Dir>(
+    buffer: &mut Buffer<D, A>,
+    table: &Table,
+) -> Option<Wrong> {
     for serial in 0..SERIALS {
         let known = table.known(serial)?;
         let wrong = wrong_chunk(buffer, serial, &known);
@@ -97,23 +104,36 @@ fn wrong_chunks<D: Dir>(buffer: &mut Buffer<D, Global>, table: &Table) -> Option
 }
 
 // Whether the next append takes the next serial.
-fn goes_on<D: Dir>(alloc: Global, buffer: &mut Buffer<D, Global>) -> bool {
+fn goes_on<A: Allocator + Copy, D: Dir>(alloc: A, buffer: &mut Buffer<D, A>) -> bool {
     let next = buffer.chunks().next_serial();
     append(alloc, buffer, b'z', 99) == Ok(next)
 }
 
 /// What is wrong in this folder, if anything is.
-pub fn wrong_in<D: Dir + Drop>(alloc: Global, dir: D, table: &Table) -> Option<Wrong> {
-    let Ok(mut buffer) = open(alloc, dir) else {
-        return Some(Wrong::Unopened);
-    };
-    let wrong = wrong_chunks(&mut buffer, table);
-    if wrong.is_some() {
-        return wrong;
+pub fn wrong_in<A: Allocator + Copy, D: Dir + Drop>(
+    alloc: A,
+    dir: D,
+    table: &Table,
+) -> Option<Wrong> {
+    match open(alloc, dir) {
+        Ok(mut buffer) => {
+            let wrong = wrong_with(alloc, &mut buffer, table);
+            drop(buffer.into_dir());
+            wrong
+        }
+        Err(_) => Some(Wrong::Unopened),
     }
-    if goes_on(alloc, &mut buffer) {
-        None
-    } else {
-        Some(Wrong::NextAppend)
+}
+
+// What is wrong with this buffer.
+fn wrong_with<A: Allocator + Copy, D: Dir>(
+    alloc: A,
+    buffer: &mut Buffer<D, A>,
+    table: &Table,
+) -> Option<Wrong> {
+    let wrong = wrong_chunks(buffer, table);
+    if wrong.is_none() && !goes_on(alloc, buffer) {
+        return Some(Wrong::NextAppend);
     }
+    wrong
 }

@@ -5,10 +5,13 @@ use buffer_state::{Limits, Stage};
 use buffer_store::{Appended, Buffer, BufferFault, RENEWED_PAST_IN_MEMORY, Settings};
 use disk_files::Dir;
 use event_modes::Entries;
-use std::alloc::{AllocError, Global};
+use std::alloc::{AllocError, Allocator};
 
 /// Opens the buffer in this folder. A folder that doesn't open is handed back with its fault.
-pub fn open<D: Dir>(alloc: Global, dir: D) -> Result<Buffer<D, Global>, (BufferFault, D)> {
+pub fn open<A: Allocator + Copy, D: Dir>(
+    alloc: A,
+    dir: D,
+) -> Result<Buffer<D, A>, (BufferFault, D)> {
     let limits = Limits {
         chunk: u64::MAX,
         total: u64::MAX,
@@ -21,7 +24,7 @@ pub fn open<D: Dir>(alloc: Global, dir: D) -> Result<Buffer<D, Global>, (BufferF
 }
 
 // The entry of this number.
-fn entry(alloc: Global, number: u8) -> Result<Entries<Global>, AllocError> {
+fn entry<A: Allocator + Copy>(alloc: A, number: u8) -> Result<Entries<A>, AllocError> {
     match Entries::read(alloc, &[0x92, number, 0x80], 1)? {
         Some(some) => Ok(some),
         None => Err(AllocError),
@@ -36,9 +39,9 @@ fn serial_of(put: Result<Appended, BufferFault>) -> Result<u64, BufferFault> {
 }
 
 /// Appends the entry of this number under this tag, and gives its serial.
-pub fn append<D: Dir>(
-    alloc: Global,
-    buffer: &mut Buffer<D, Global>,
+pub fn append<A: Allocator + Copy, D: Dir>(
+    alloc: A,
+    buffer: &mut Buffer<D, A>,
     tag: u8,
     number: u8,
 ) -> Result<u64, BufferFault> {
@@ -49,9 +52,9 @@ pub fn append<D: Dir>(
 }
 
 // The same without a sync.
-fn stage<D: Dir>(
-    alloc: Global,
-    buffer: &mut Buffer<D, Global>,
+fn stage<A: Allocator + Copy, D: Dir>(
+    alloc: A,
+    buffer: &mut Buffer<D, A>,
     tag: u8,
     number: u8,
 ) -> Result<u64, BufferFault> {
@@ -62,9 +65,9 @@ fn stage<D: Dir>(
 }
 
 // The serial at which such an entry is to be appended.
-fn place<D: Dir>(
-    alloc: Global,
-    buffer: &Buffer<D, Global>,
+fn place<A: Allocator + Copy, D: Dir>(
+    alloc: A,
+    buffer: &Buffer<D, A>,
     tag: u8,
     number: u8,
 ) -> Result<u64, BufferFault> {
@@ -75,9 +78,9 @@ fn place<D: Dir>(
 }
 
 // An append that the device fails may be there.
-fn grow<D: Dir>(
-    alloc: Global,
-    buffer: &mut Buffer<D, Global>,
+fn grow<A: Allocator + Copy, D: Dir>(
+    alloc: A,
+    buffer: &mut Buffer<D, A>,
     table: &mut Table,
     act: Act,
 ) -> Result<(), BufferFault> {
@@ -97,14 +100,17 @@ fn grow<D: Dir>(
     Ok(())
 }
 
-fn sync<D: Dir>(buffer: &mut Buffer<D, Global>, table: &mut Table) -> Result<(), BufferFault> {
+fn sync<A: Allocator + Copy, D: Dir>(
+    buffer: &mut Buffer<D, A>,
+    table: &mut Table,
+) -> Result<(), BufferFault> {
     buffer.sync()?;
     table.sync();
     Ok(())
 }
 
-fn enqueue<D: Dir>(
-    buffer: &mut Buffer<D, Global>,
+fn enqueue<A: Allocator + Copy, D: Dir>(
+    buffer: &mut Buffer<D, A>,
     table: &mut Table,
     serial: u64,
 ) -> Result<(), BufferFault> {
@@ -114,21 +120,21 @@ fn enqueue<D: Dir>(
     Ok(())
 }
 
-fn claim<D: Dir>(buffer: &mut Buffer<D, Global>, table: &mut Table) {
+fn claim<A: Allocator + Copy, D: Dir>(buffer: &mut Buffer<D, A>, table: &mut Table) {
     if let Some(serial) = buffer.claim() {
         table.claim(serial);
     }
 }
 
-fn give_back<D: Dir>(buffer: &mut Buffer<D, Global>, serial: u64) {
+fn give_back<A: Allocator + Copy, D: Dir>(buffer: &mut Buffer<D, A>, serial: u64) {
     if buffer.chunks().stage(serial) == Some(Stage::Claimed) {
         buffer.give_back(serial);
     }
 }
 
 // A removal that the device fails may have been told.
-fn purge<D: Dir>(
-    buffer: &mut Buffer<D, Global>,
+fn purge<A: Allocator + Copy, D: Dir>(
+    buffer: &mut Buffer<D, A>,
     table: &mut Table,
     serial: u64,
 ) -> Result<(), BufferFault> {
@@ -139,7 +145,7 @@ fn purge<D: Dir>(
 }
 
 // The least serial of a queued chunk.
-fn oldest<D: Dir>(buffer: &Buffer<D, Global>) -> Option<u64> {
+fn oldest<A: Allocator + Copy, D: Dir>(buffer: &Buffer<D, A>) -> Option<u64> {
     for facts in buffer.chunks().iter() {
         if facts.stage == Stage::Queued {
             return Some(facts.serial);
@@ -148,8 +154,8 @@ fn oldest<D: Dir>(buffer: &Buffer<D, Global>) -> Option<u64> {
     None
 }
 
-fn drop_oldest<D: Dir>(
-    buffer: &mut Buffer<D, Global>,
+fn drop_oldest<A: Allocator + Copy, D: Dir>(
+    buffer: &mut Buffer<D, A>,
     table: &mut Table,
 ) -> Result<(), BufferFault> {
     if let Some(serial) = oldest(buffer)
@@ -161,15 +167,18 @@ fn drop_oldest<D: Dir>(
     Ok(())
 }
 
-fn renew<D: Dir>(buffer: &mut Buffer<D, Global>, table: &mut Table) -> Result<(), BufferFault> {
+fn renew<A: Allocator + Copy, D: Dir>(
+    buffer: &mut Buffer<D, A>,
+    table: &mut Table,
+) -> Result<(), BufferFault> {
     buffer.renew()?;
     table.sync();
     Ok(())
 }
 
-fn take<D: Dir>(
-    alloc: Global,
-    buffer: &mut Buffer<D, Global>,
+fn take<A: Allocator + Copy, D: Dir>(
+    alloc: A,
+    buffer: &mut Buffer<D, A>,
     table: &mut Table,
     act: Act,
 ) -> Result<(), BufferFault> {
@@ -198,9 +207,9 @@ fn is_right(had_failed: bool, act: Act, answer: Result<(), BufferFault>) -> bool
 
 /// Takes the buffer through the acts, and says whether each was answered as it ought to be: behind
 /// a fault each call that writes is refused.
-pub fn play<D: Dir>(
-    alloc: Global,
-    buffer: &mut Buffer<D, Global>,
+pub fn play<A: Allocator + Copy, D: Dir>(
+    alloc: A,
+    buffer: &mut Buffer<D, A>,
     table: &mut Table,
     acts: &[Act],
 ) -> bool {

@@ -1,11 +1,12 @@
 //! A sink over a device that fails, and each stop behind it.
 
-use crate::stops::tally::{Failing, STOPS, Stop, Tally, lengths, on_device, stopped};
-use disk_files::{Dir, Keep, MemoryDir};
+use crate::stops::tally::{Failing, STOPS, Stop, Stopping, Tally, lengths, on_device, stopped};
+use disk_files::{Dir, Keep};
 use event_modes::Entries;
 use sink_series::{Series, SeriesFault, Stored};
-use std::alloc::Global;
+use std::alloc::Allocator;
 use std::io;
+use std::io::Print;
 
 // Entries that are written in one call: their tag, their bytes, and how many they are.
 struct Write {
@@ -61,21 +62,21 @@ const CALLS: u64 = 30;
 
 static NAMES: [&[u8]; 2] = [b"out.0000000001.sink", b"out.0000000002.sink"];
 
-fn opened<D: Dir>(alloc: Global, dir: D) -> Result<Series<D, Global>, (SeriesFault, D)> {
+fn opened<A: Allocator + Copy, D: Dir>(alloc: A, dir: D) -> Result<Series<D, A>, (SeriesFault, D)> {
     Series::open(alloc, dir, b"out")
 }
 
 // Whether a receipt names the sink, the tag and the entries.
-fn is_receipt(stored: &Stored<Global>, write: &Write) -> bool {
+fn is_receipt<A: Allocator + Copy>(stored: &Stored<A>, write: &Write) -> bool {
     stored.path() == b"out".as_slice()
         && stored.tag() == write.tag
         && stored.entries().as_bytes() == write.entries
 }
 
 // Writes, and says why not, or that the receipt is wrong.
-fn put<D: Dir>(
-    alloc: Global,
-    series: &mut Series<D, Global>,
+fn put<A: Allocator + Copy, D: Dir>(
+    alloc: A,
+    series: &mut Series<D, A>,
     write: &Write,
 ) -> Result<(), SeriesFault> {
     if write.tag.len() > 9 {
@@ -112,6 +113,15 @@ impl Went {
         }
     }
 
+    // Whether a sink that holds so many events, if its events are those, holds what was answered
+    // for, and of the rest that was begun a beginning.
+    fn is_held(&self, held: Option<usize>) -> bool {
+        match held {
+            Some(count) => self.is_well && self.stored <= count && count <= self.begun,
+            None => false,
+        }
+    }
+
     // A write was answered so: behind one that the device failed none is taken.
     fn note(&mut self, count: usize, answer: Result<(), SeriesFault>) {
         match answer {
@@ -131,9 +141,9 @@ impl Went {
     }
 }
 
-fn put_all<D: Dir>(
-    alloc: Global,
-    series: &mut Series<D, Global>,
+fn put_all<A: Allocator + Copy, D: Dir>(
+    alloc: A,
+    series: &mut Series<D, A>,
     went: &mut Went,
     writes: &[Write],
 ) {
@@ -144,7 +154,7 @@ fn put_all<D: Dir>(
 }
 
 // Opens the sink, and writes. The folder as it is left.
-fn sit<D: Dir>(alloc: Global, dir: D, went: &mut Went, writes: &[Write]) -> D {
+fn sit<A: Allocator + Copy, D: Dir>(alloc: A, dir: D, went: &mut Went, writes: &[Write]) -> D {
     match opened(alloc, dir) {
         Ok(mut series) => {
             put_all(alloc, &mut series, went, writes);
@@ -159,16 +169,16 @@ fn sit<D: Dir>(alloc: Global, dir: D, went: &mut Went, writes: &[Write]) -> D {
 }
 
 // The folder that is left where calls of the second opening fail so, behind such a stop.
-fn left(alloc: Global, calls: Failing, stop: Stop) -> (Went, MemoryDir<Global>) {
+fn left<A: Allocator + Copy, D: Stopping<A>>(alloc: A, calls: Failing, stop: Stop) -> (Went, D) {
     let (earlier, later) = WRITES.split_at(EARLIER.min(WRITES.len()));
     let mut went = Went::new();
-    let dir = sit(alloc, MemoryDir::new(alloc), &mut went, earlier);
+    let dir = sit(alloc, D::made(alloc), &mut went, earlier);
     let dir = sit(alloc, on_device(dir, calls), &mut went, later);
-    (went, stopped(dir.into_inner(), stop))
+    (went, stopped::<A, D>(dir.into_inner(), stop))
 }
 
 // How many events the sink holds, if these are the first of all, in order.
-fn held<D: Dir>(series: &mut Series<D, Global>) -> Option<usize> {
+fn held<A: Allocator + Copy, D: Dir>(series: &mut Series<D, A>) -> Option<usize> {
     let Ok(events) = series.content() else {
         return None;
     };
@@ -182,19 +192,26 @@ fn held<D: Dir>(series: &mut Series<D, Global>) -> Option<usize> {
 
 // Whether the folder opens, and holds what was answered for, and of the rest that was begun a
 // beginning.
-fn is_right<D: Dir + Drop>(alloc: Global, dir: D, went: &Went) -> bool {
+fn is_right<A: Allocator + Copy, D: Dir + Drop>(alloc: A, dir: D, went: &Went) -> bool {
     match opened(alloc, dir) {
-        Ok(mut series) => match held(&mut series) {
-            Some(count) => went.is_well && went.stored <= count && count <= went.begun,
-            None => false,
-        },
+        Ok(mut series) => {
+            let held = held(&mut series);
+            drop(series.into_dir());
+            went.is_held(held)
+        }
         Err(_) => false,
     }
 }
 
-fn look(rt: &HostRuntime, tally: &mut Tally, calls: Failing, stop: Stop) -> io::Result<bool> {
-    let (went, dir) = left(rt.alloc(), calls, stop);
-    let is_wrong = !is_right(rt.alloc(), dir, &went);
+fn look<R: Print, A: Allocator + Copy, D: Stopping<A>>(
+    rt: &R,
+    alloc: A,
+    tally: &mut Tally,
+    calls: Failing,
+    stop: Stop,
+) -> io::Result<bool> {
+    let (went, dir) = left::<A, D>(alloc, calls, stop);
+    let is_wrong = !is_right(alloc, dir, &went);
     if is_wrong {
         println!(rt; "wrong at {calls:?} behind {stop:?}")?;
     }
@@ -203,27 +220,37 @@ fn look(rt: &HostRuntime, tally: &mut Tally, calls: Failing, stop: Stop) -> io::
 }
 
 // Each stop behind calls of which some fail, and whether none failed.
-fn stops(rt: &HostRuntime, tally: &mut Tally, calls: Failing) -> io::Result<bool> {
+fn stops<R: Print, A: Allocator + Copy, D: Stopping<A>>(
+    rt: &R,
+    alloc: A,
+    tally: &mut Tally,
+    calls: Failing,
+) -> io::Result<bool> {
     let mut is_whole = false;
     for stop in &STOPS {
-        is_whole = look(rt, tally, calls, *stop)?;
+        is_whole = look::<R, A, D>(rt, alloc, tally, calls, *stop)?;
     }
-    let (_, few) = left(rt.alloc(), calls, Stop::Keeping(Keep::Last(0)));
-    let (_, all) = left(rt.alloc(), calls, Stop::Keeping(Keep::Greatest));
-    let (least, most) = lengths(few, all, &NAMES);
+    let (least, most) = ends::<A, D>(alloc, calls);
     for kept in least..most {
-        look(rt, tally, calls, Stop::Keeping(Keep::Last(kept)))?;
+        look::<R, A, D>(rt, alloc, tally, calls, Stop::Keeping(Keep::Last(kept)))?;
     }
     Ok(is_whole)
 }
 
+// The least and the greatest length that a stop may leave of the file that was written to last.
+fn ends<A: Allocator + Copy, D: Stopping<A>>(alloc: A, calls: Failing) -> (usize, usize) {
+    let (_, few) = left::<A, D>(alloc, calls, Stop::Keeping(Keep::Last(0)));
+    let (_, all) = left::<A, D>(alloc, calls, Stop::Keeping(Keep::Greatest));
+    lengths(few, all, &NAMES)
+}
+
 /// Each stop behind each call of an opening and of writes that fails, alone or with all behind it,
 /// until none does.
-pub fn all(rt: &HostRuntime) -> io::Result<Tally> {
+pub fn all<R: Print, A: Allocator + Copy, D: Stopping<A>>(rt: &R, alloc: A) -> io::Result<Tally> {
     let mut tally = Tally::new();
     for passes in 0..CALLS {
-        let from = stops(rt, &mut tally, Failing::Past(passes))?;
-        let alone = stops(rt, &mut tally, Failing::At(passes))?;
+        let from = stops::<R, A, D>(rt, alloc, &mut tally, Failing::Past(passes))?;
+        let alone = stops::<R, A, D>(rt, alloc, &mut tally, Failing::At(passes))?;
         if from && alone {
             break;
         }

@@ -2,7 +2,26 @@
 //! looked at.
 
 use disk_files::{Dir, Fuse, Keep, MemoryDir};
-use std::alloc::Global;
+use std::alloc::Allocator;
+
+/// A folder that can be made anew, and stopped.
+pub trait Stopping<A: Allocator + Copy>: Dir + Drop {
+    /// A folder without files.
+    fn made(alloc: A) -> Self;
+
+    /// What a stop leaves of it.
+    fn left(self, keep: Keep) -> Self;
+}
+
+impl<A: Allocator + Copy> Stopping<A> for MemoryDir<A> {
+    fn made(alloc: A) -> Self {
+        MemoryDir::new(alloc)
+    }
+
+    fn left(self, keep: Keep) -> Self {
+        self.stop(keep)
+    }
+}
 
 /// Which calls of a device fail.
 #[derive(Clone, Copy, Debug)]
@@ -14,7 +33,7 @@ pub enum Failing {
 }
 
 /// The folder on a device that fails so.
-pub fn on_device(dir: MemoryDir<Global>, calls: Failing) -> Fuse<MemoryDir<Global>> {
+pub fn on_device<D: Dir>(dir: D, calls: Failing) -> Fuse<D> {
     match calls {
         Failing::Past(passes) => Fuse::after(dir, passes),
         Failing::At(passes) => Fuse::once(dir, passes),
@@ -37,10 +56,10 @@ pub static STOPS: [Stop; 3] = [
 ];
 
 /// The folder behind the stop.
-pub fn stopped(dir: MemoryDir<Global>, stop: Stop) -> MemoryDir<Global> {
+pub fn stopped<A: Allocator + Copy, D: Stopping<A>>(dir: D, stop: Stop) -> D {
     match stop {
         Stop::Never => dir,
-        Stop::Keeping(keep) => dir.stop(keep),
+        Stop::Keeping(keep) => dir.left(keep),
     }
 }
 
