@@ -63,11 +63,22 @@ fn draw_read<A: Allocator + Copy, R: CountedRead, O: Open>(
     files: &O,
 ) -> Result<Drawn<A>, ReadFault> {
     let text = read_whole(alloc, net)?;
-    let names = conf_names(alloc, &text)?;
+    draw_plan(alloc, name, drawing, &text, files)
+}
+
+// The same of the plan of this text.
+fn draw_plan<A: Allocator + Copy, O: Open>(
+    alloc: A,
+    name: &str,
+    drawing: Drawing,
+    text: &[u8],
+    files: &O,
+) -> Result<Drawn<A>, ReadFault> {
+    let names = conf_names(alloc, text)?;
     let confs = read_confs(alloc, &names, files)?;
     let given = Given {
         name,
-        text: &text,
+        text,
         conf_names: &names,
         confs: &confs,
     };

@@ -7,7 +7,7 @@ use jiff::Timestamp;
 use program_text::{ReadFault, Status};
 use std::alloc::{AllocError, AllocFailed, Allocator, Global};
 use std::io::Write;
-use tag_pattern::{Pattern, PatternError};
+use tag_pattern::{Pattern, PatternError, Plain};
 
 /// What stands behind `events`.
 #[derive(Drop)]
@@ -178,21 +178,40 @@ fn choice_of<'a, A: Allocator>(
 ) -> Result<Choice<Global>, Fault<'a>> {
     let mut patterns = Vec::new(rt.alloc());
     for text in &asked.tags {
-        match Pattern::read(rt.alloc(), text) {
-            Ok(plains) => {
-                for plain in plains {
-                    patterns.push(plain)?;
-                }
-            }
-            Err(PatternError::Memory) => return Err(Fault::Unread(ReadFault::Memory)),
-            Err(fault) => return Err(Fault::Tag(text, fault)),
-        }
+        put_pattern(rt, text, &mut patterns)?;
     }
+    let (since, until) = times_of(asked)?;
     Ok(Choice {
         patterns,
-        since: time_of(asked.since)?,
-        until: time_of(asked.until)?,
+        since,
+        until,
     })
+}
+
+// Adds the patterns that this text stands for.
+fn put_pattern<'a>(
+    rt: &HostRuntime,
+    text: &'a str,
+    patterns: &mut Vec<Plain<Global>>,
+) -> Result<(), Fault<'a>> {
+    match Pattern::read(rt.alloc(), text) {
+        Ok(plains) => {
+            for plain in plains {
+                patterns.push(plain)?;
+            }
+            Ok(())
+        }
+        Err(PatternError::Memory) => Err(Fault::Unread(ReadFault::Memory)),
+        Err(fault) => Err(Fault::Tag(text, fault)),
+    }
+}
+
+// The first time that is asked for, and the one before which events are.
+fn times_of<'a, A: Allocator>(
+    asked: &EventWords<'a, A>,
+) -> Result<(Option<i128>, Option<i128>), Fault<'a>> {
+    let since = time_of(asked.since)?;
+    Ok((since, time_of(asked.until)?))
 }
 
 // The time that a text says, in nanoseconds since the beginning of 1970.

@@ -173,13 +173,23 @@ fn drop_words<'a>(
         words.push(format!(in rt.alloc(); "{word}")?)?;
     }
     for path in lists {
-        let text = read_whole(rt.alloc(), &mut folder.text(path))?;
-        match String::from_utf8(text) {
-            Ok(text) => add_listed(rt.alloc(), &text, &mut words)?,
-            Err(_) => return Err(ReadFault::Read),
-        }
+        put_words_of(rt, folder, path, &mut words)?;
     }
     Ok(words)
+}
+
+// Adds those of the file at this path.
+fn put_words_of<'a>(
+    rt: &HostRuntime,
+    folder: &Folder<'a>,
+    path: &'a str,
+    words: &mut Vec<String>,
+) -> Result<(), ReadFault> {
+    let text = read_whole(rt.alloc(), &mut folder.text(path))?;
+    match String::from_utf8(text) {
+        Ok(text) => Ok(add_listed(rt.alloc(), &text, words)?),
+        Err(_) => Err(ReadFault::Read),
+    }
 }
 
 // The same with the words that name matches.
