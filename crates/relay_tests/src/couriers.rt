@@ -12,7 +12,7 @@ use forward_core::SessionFault;
 use relay_conf::ForwardSettings;
 use relay_ports::{BufferedOutput, RelaySetup};
 use relay_sockets::{Dialer, Nonces, SystemDialer};
-use std::alloc::Global;
+use std::alloc::{AllocError, Global};
 use std::io::Read;
 use std::net::{Ipv4Addr, Net, OpenListener, SocketAddr, TcpListener};
 use std::random::RandomSource;
@@ -59,14 +59,15 @@ fn shelf<D: Dir + Drop>(alloc: Global, dir: D) -> Result<Shared<D>, Fail> {
 
 // A message of one entry.
 fn message(alloc: Global) -> Result<Message<Global>, Fail> {
-    let Some(entries) = Entries::read(alloc, b"\x92\x01\x80", 1)? else {
-        return Err(Fail::from("an entry"));
-    };
-    Ok(Message {
-        tag: Vec::from_slice(alloc, b"a")?,
-        entries,
-        ack: None,
-    })
+    let tag = Vec::from_slice(alloc, b"a")?;
+    match Entries::read(alloc, b"\x92\x01\x80", 1)? {
+        Some(entries) => Ok(Message {
+            tag,
+            entries,
+            ack: None,
+        }),
+        None => Err(Fail::from("an entry")),
+    }
 }
 
 // A delivery of it to the buffer.
@@ -282,9 +283,8 @@ where
 // A server that takes the chunk and never answers is too late, and the chunk is queued again.
 #[test]
 fn no_answer_is_a_timeout(rt: HostRuntime) -> Result<(), Fail> {
-    let (came, has_heard) = unanswered(&rt, MemoryDir::new(rt.alloc()))?;
-    assert!(rt; came == (Some(CarryFault::Timeout), true));
-    assert!(rt; has_heard);
+    let came = unanswered(&rt, MemoryDir::new(rt.alloc()))?;
+    assert!(rt; came == ((Some(CarryFault::Timeout), true), true));
     Ok(())
 }
 
@@ -313,10 +313,23 @@ static CODES: [(CarryFault, &str); 4] = [
     (CarryFault::Device, "X4"),
 ];
 
-#[test]
-fn prints_faults_by_their_codes(rt: HostRuntime) -> Result<(), Fail> {
-    for (fault, code) in &CODES {
-        assert_eq!(rt; format!(in rt.alloc(); "{fault}")?.as_str(), *code);
+fn is_printed(alloc: Global, fault: CarryFault, code: &str) -> bool {
+    match format!(in alloc; "{fault}") {
+        Ok(text) => text.as_str() == code,
+        Err(AllocError) => false,
     }
-    Ok(())
+}
+
+fn are_printed(alloc: Global) -> bool {
+    for (fault, code) in &CODES {
+        if !is_printed(alloc, *fault, code) {
+            return false;
+        }
+    }
+    true
+}
+
+#[test]
+fn prints_faults_by_their_codes(rt: HostRuntime) {
+    assert!(rt; are_printed(rt.alloc()));
 }

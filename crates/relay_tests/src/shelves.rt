@@ -102,5 +102,6 @@ pub fn queued<D: Dir + Drop>(shelf: Shelf<D>) -> u8 {
             bits |= 1 << serial;
         }
     }
+    drop(closed.into_dir());
     bits
 }

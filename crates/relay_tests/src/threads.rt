@@ -10,7 +10,6 @@ use sink_series::{Series, SeriesFault};
 use std::alloc::Global;
 use std::sync::Wait;
 use std::sync::atomic::{AtomicBool, AtomicU64, Ordering};
-use std::test::Fail;
 use std::thread;
 use std::thread::Threads;
 use std::time::{Clock, Duration};
@@ -49,13 +48,12 @@ where
     worked
 }
 
-// Two workers of which each carries its chunk until the other does too, and what is queued then.
-fn both_carried<R: Wait + Clock + Threads + Sync, D: Dir + Drop + Send>(
+// Two workers of which each carries its chunk until the other does too.
+fn carry_both<R: Wait + Clock + Threads + Sync, D: Dir + Send>(
     alloc: Global,
     rt: &R,
-    dir: D,
-) -> Result<(Worked, u8), BufferFault> {
-    let shelf = filled(alloc, dir, 2, by(Basis::Written))?;
+    shelf: &Shelf<D>,
+) -> Result<Worked, BufferFault> {
     let stop = AtomicBool::new(false);
     let courier = Meeting {
         first: AtomicBool::new(false),
@@ -64,41 +62,72 @@ fn both_carried<R: Wait + Clock + Threads + Sync, D: Dir + Drop + Send>(
         stop: &stop,
     };
     let retries = Retries::new(alloc, PATIENT);
-    let worked = run_two(rt, &shelf, &courier, &OpenGate, &retries, &stop)?;
-    Ok((worked, queued(shelf)))
+    run_two(rt, shelf, &courier, &OpenGate, &retries, &stop)
 }
 
-#[test]
-fn two_chunks_are_carried_at_once(rt: HostRuntime) -> Result<(), Fail> {
-    let both = Worked {
-        purged: 2,
-        failed: 0,
-    };
-    let carried = both_carried(rt.alloc(), &rt, MemoryDir::new(rt.alloc()))?;
-    assert_eq!(rt; carried, (both, 0));
-    Ok(())
-}
+const BOTH: Worked = Worked {
+    purged: 2,
+    failed: 0,
+};
 
-// How many of two chunks two workers purge behind a gate that keeps the first, and how many are
-// queued then.
-fn kept_by_a_gate<R: Wait + Clock + Threads + Sync, D: Dir + Drop + Send>(
+// Whether both chunks of a buffer in this folder go so, and none is queued then.
+fn are_carried<R: Wait + Clock + Threads + Sync, D: Dir + Drop + Send>(
     alloc: Global,
     rt: &R,
     dir: D,
-) -> Result<(u64, u8), BufferFault> {
-    let shelf = filled(alloc, dir, 2, by(Basis::Written))?;
-    let stop = AtomicBool::new(false);
-    let courier = Plain { stop: &stop };
-    let retries = Retries::new(alloc, PATIENT);
-    let worked = run_two(rt, &shelf, &courier, &NotFirst, &retries, &stop)?;
-    Ok((worked.purged, queued(shelf)))
+) -> bool {
+    let Ok(shelf) = filled(alloc, dir, 2, by(Basis::Written)) else {
+        return false;
+    };
+    let worked = carry_both(alloc, rt, &shelf);
+    worked == Ok(BOTH) && queued(shelf) == 0
 }
 
 #[test]
-fn a_gate_keeps_one_chunk(rt: HostRuntime) -> Result<(), Fail> {
-    let kept = kept_by_a_gate(rt.alloc(), &rt, MemoryDir::new(rt.alloc()))?;
-    assert_eq!(rt; kept, (1, 1));
-    Ok(())
+fn two_chunks_are_carried_at_once(rt: HostRuntime) {
+    assert!(rt; are_carried(rt.alloc(), &rt, MemoryDir::new(rt.alloc())));
+}
+
+// Two workers behind a gate that keeps the first chunk.
+fn carry_the_other<R: Wait + Clock + Threads + Sync, D: Dir + Send>(
+    alloc: Global,
+    rt: &R,
+    shelf: &Shelf<D>,
+) -> Result<Worked, BufferFault> {
+    let stop = AtomicBool::new(false);
+    let courier = Plain { stop: &stop };
+    let retries = Retries::new(alloc, PATIENT);
+    run_two(rt, shelf, &courier, &NotFirst, &retries, &stop)
+}
+
+// How many of two chunks go so.
+fn purged_of<R: Wait + Clock + Threads + Sync, D: Dir + Send>(
+    alloc: Global,
+    rt: &R,
+    shelf: &Shelf<D>,
+) -> u64 {
+    match carry_the_other(alloc, rt, shelf) {
+        Ok(worked) => worked.purged,
+        Err(_) => u64::MAX,
+    }
+}
+
+// Whether one of two chunks of a buffer in this folder goes so, and the first is queued then.
+fn is_kept<R: Wait + Clock + Threads + Sync, D: Dir + Drop + Send>(
+    alloc: Global,
+    rt: &R,
+    dir: D,
+) -> bool {
+    let Ok(shelf) = filled(alloc, dir, 2, by(Basis::Written)) else {
+        return false;
+    };
+    let purged = purged_of(alloc, rt, &shelf);
+    purged == 1 && queued(shelf) == 1
+}
+
+#[test]
+fn a_gate_keeps_one_chunk(rt: HostRuntime) {
+    assert!(rt; is_kept(rt.alloc(), &rt, MemoryDir::new(rt.alloc())));
 }
 
 // Two workers that write to the sink until three chunks are written.
@@ -130,29 +159,41 @@ fn count_of<S: Dir + Drop>(
     Ok(series.content()?.len())
 }
 
-// What two workers do with three chunks for a sink in the second folder, how many are queued then,
-// and how many events the sink has.
-fn written<R: Wait + Clock + Threads + Sync, D: Dir + Drop + Send, S: Dir + Drop + Send>(
+const ALL: Worked = Worked {
+    purged: 3,
+    failed: 0,
+};
+
+// Whether two workers write three chunks of a buffer in this folder to this sink, and none is
+// queued then.
+fn are_written<R: Wait + Clock + Threads + Sync, D: Dir + Drop + Send, S: Dir + Drop + Send>(
+    alloc: Global,
+    rt: &R,
+    dir: D,
+    sink: &SinkCourier<S, Global>,
+) -> Result<bool, BufferFault> {
+    let shelf = filled(alloc, dir, 3, by_sink(alloc, b"all")?)?;
+    let worked = write_three(rt, alloc, &shelf, sink);
+    Ok(worked == Ok(ALL) && queued(shelf) == 0)
+}
+
+// The same of a sink in the second folder, which has three events then.
+fn reach_the_sink<R: Wait + Clock + Threads + Sync, D: Dir + Drop + Send, S: Dir + Drop + Send>(
     alloc: Global,
     rt: &R,
     dir: D,
     sinks: S,
-) -> Result<(Worked, u8, usize), Fail> {
-    let shelf = filled(alloc, dir, 3, by_sink(alloc, b"all")?)?;
-    let writer = SinkCourier::new(sink(alloc, sinks, b"all")?);
-    let worked = write_three(rt, alloc, &shelf, &writer)?;
-    let left = queued(shelf);
-    Ok((worked, left, count_of(alloc, writer)?))
+) -> bool {
+    let Ok(sink) = sink(alloc, sinks, b"all") else {
+        return false;
+    };
+    let writer = SinkCourier::new(sink);
+    let written = are_written(alloc, rt, dir, &writer);
+    written == Ok(true) && count_of(alloc, writer) == Ok(3)
 }
 
 #[test]
-fn three_chunks_reach_the_sink(rt: HostRuntime) -> Result<(), Fail> {
+fn three_chunks_reach_the_sink(rt: HostRuntime) {
     let alloc = rt.alloc();
-    let three = Worked {
-        purged: 3,
-        failed: 0,
-    };
-    let written = written(alloc, &rt, MemoryDir::new(alloc), MemoryDir::new(alloc))?;
-    assert_eq!(rt; written, (three, 0, 3));
-    Ok(())
+    assert!(rt; reach_the_sink(alloc, &rt, MemoryDir::new(alloc), MemoryDir::new(alloc)));
 }

@@ -168,7 +168,12 @@ fn is_accounted<D: Dir + Drop>(
     let shelf = Arc::try_clone(job.buffer());
     drop(job);
     match shelf.ok().and_then(Arc::into_inner) {
-        Some(shelf) => shelf.close().audit(alloc, stubs).is_ok(),
+        Some(shelf) => {
+            let closed = shelf.close();
+            let is_accounted = closed.audit(alloc, stubs).is_ok();
+            drop(closed.into_dir());
+            is_accounted
+        }
         None => false,
     }
 }
