@@ -164,10 +164,20 @@ fn print_chosen<'a, A: Allocator, W: Write + Drop>(
     } else {
         Output::all(out)
     };
+    print_to(rt, asked, &choice, &mut output)
+}
+
+// Prints the events of this choice.
+fn print_to<'a, A: Allocator, W: Write>(
+    rt: &'a HostRuntime,
+    asked: &EventWords<'a, A>,
+    choice: &Choice<Global>,
+    out: &mut Output<W, Global>,
+) -> Result<Status, Fault<'a>> {
     match asked.paths.as_slice() {
-        paths if asked.is_followed => follow_files(rt, paths, &choice, &mut output),
-        [path] if Kind::of(path).is_none() => print_folder(rt, path, &choice, &mut output),
-        paths => print_files(rt, paths, &choice, &mut output),
+        paths if asked.is_followed => follow_files(rt, paths, choice, out),
+        [path] if Kind::of(path).is_none() => print_folder(rt, path, choice, out),
+        paths => print_files(rt, paths, choice, out),
     }
 }
 

@@ -18,7 +18,7 @@ mod words;
 
 use check::{lent_names, run_adapted_check, run_check};
 use conf_listing::run_adapt;
-use draw::run_draw;
+use draw::{Drawing, run_draw};
 use drops::{DropNames, add_listed, print_misspelt, read_names};
 use events::print_events;
 use explain::run_explain;
@@ -98,35 +98,83 @@ fn run<A: Allocator>(rt: &HostRuntime, word: Option<Word<'_, A>>) -> Status {
         Some(Word::Help) => put_last(out, HELP.as_bytes(), Status::Done),
         Some(Word::Version) => print_version(rt.alloc(), "relayctl", out),
         Some(Word::Check(asked)) => answer_plan(rt, &folder, &asked, Answering::Check, out),
-        Some(Word::Label(net)) => run_label(rt.alloc(), &mut folder.text(net), &folder, out),
-        Some(Word::LabelFresh(net)) => {
-            run_fresh_label(rt.alloc(), &mut folder.text(net), &folder, out)
-        }
+        Some(Word::Label(net)) => print_label(rt, &folder, net, out),
+        Some(Word::LabelFresh(net)) => print_fresh_label(rt, &folder, net, out),
         Some(Word::Explain(asked)) => answer_plan(rt, &folder, &asked, Answering::Explain, out),
-        Some(Word::Draw(net, drawing)) => {
-            let faults = &mut rt.stderr();
-            run_draw(
-                rt.alloc(),
-                net,
-                drawing,
-                &mut folder.text(net),
-                &folder,
-                out,
-                faults,
-            )
-        }
-        Some(Word::Ways(conf, tags)) => run_ways(rt.alloc(), &mut folder.text(conf), tags, out),
-        Some(Word::PlanWays(net, tags)) => {
-            run_plan_ways(rt.alloc(), &mut folder.text(net), &folder, tags, out)
-        }
-        Some(Word::Adapt(conf, accepted)) => {
-            run_adapt(rt.alloc(), &mut folder.text(conf), accepted, out)
-        }
+        Some(Word::Draw(net, drawing)) => print_drawing(rt, &folder, net, drawing, out),
+        Some(Word::Ways(conf, tags)) => print_ways(rt, &folder, conf, tags, out),
+        Some(Word::PlanWays(net, tags)) => print_plan_ways(rt, &folder, net, tags, out),
+        Some(Word::Adapt(conf, accepted)) => print_adapted(rt, &folder, conf, accepted, out),
         Some(Word::Show(path)) => show_folder(rt, path, out),
         Some(Word::Status(asked)) => print_status(rt, asked, out),
         Some(Word::Events(asked)) => print_events(rt, &asked, out),
         None => usage(rt),
     }
+}
+
+// Labels the plan at this path.
+fn print_label<'a, W: Write>(
+    rt: &HostRuntime,
+    folder: &Folder<'a>,
+    net: &'a str,
+    out: &mut W,
+) -> Status {
+    run_label(rt.alloc(), &mut folder.text(net), folder, out)
+}
+
+// The same without its own labels and reaches.
+fn print_fresh_label<'a, W: Write>(
+    rt: &HostRuntime,
+    folder: &Folder<'a>,
+    net: &'a str,
+    out: &mut W,
+) -> Status {
+    run_fresh_label(rt.alloc(), &mut folder.text(net), folder, out)
+}
+
+// Draws the plan at this path.
+fn print_drawing<'a, W: Write>(
+    rt: &HostRuntime,
+    folder: &Folder<'a>,
+    net: &'a str,
+    drawing: Drawing,
+    out: &mut W,
+) -> Status {
+    let (text, faults) = (&mut folder.text(net), &mut rt.stderr());
+    run_draw(rt.alloc(), net, drawing, text, folder, out, faults)
+}
+
+// Says where tags go under the configuration at this path.
+fn print_ways<'a, W: Write>(
+    rt: &HostRuntime,
+    folder: &Folder<'a>,
+    conf: &'a str,
+    tags: &[String],
+    out: &mut W,
+) -> Status {
+    run_ways(rt.alloc(), &mut folder.text(conf), tags, out)
+}
+
+// Says where tags go through the relays of the plan at this path.
+fn print_plan_ways<'a, W: Write>(
+    rt: &HostRuntime,
+    folder: &Folder<'a>,
+    net: &'a str,
+    tags: &[String],
+    out: &mut W,
+) -> Status {
+    run_plan_ways(rt.alloc(), &mut folder.text(net), folder, tags, out)
+}
+
+// Adapts the configuration at this path.
+fn print_adapted<'a, W: Write>(
+    rt: &HostRuntime,
+    folder: &Folder<'a>,
+    conf: &'a str,
+    accepted: &[String],
+    out: &mut W,
+) -> Status {
+    run_adapt(rt.alloc(), &mut folder.text(conf), accepted, out)
 }
 
 // By what a plan is answered.

@@ -58,32 +58,57 @@ pub fn read_word<A: Allocator + Copy>(
     alloc: A,
     words: &[String],
 ) -> Result<Option<Word<'_, A>>, AllocError> {
-    match words {
-        [_, first, behind @ ..] if first.as_str() == "check" => check_word(alloc, behind),
-        [_, first, behind @ ..] if first.as_str() == "explain" => explain_word(alloc, behind),
-        [_, first, behind @ ..] if first.as_str() == "events" => {
-            Ok(event_words(alloc, behind)?.map(|asked| Word::Events(asked)))
-        }
-        _ => Ok(other_word(words)),
+    let [_, first, behind @ ..] = words else {
+        return Ok(None);
+    };
+    match first.as_str() {
+        "check" => check_word(alloc, behind),
+        "explain" => explain_word(alloc, behind),
+        "events" => events_word(alloc, behind),
+        first => Ok(other_word(first, behind)),
     }
 }
 
-// The same of words that ask for neither a check, an explanation nor events.
-fn other_word<A: Allocator>(words: &[String]) -> Option<Word<'_, A>> {
-    if words.len() < 2 {
-        return None;
-    }
-    let behind = &words[2..];
-    match words[1].as_str() {
+// The same of a word that asks for neither a check, an explanation nor events, and of those behind
+// it.
+fn other_word<'a, A: Allocator>(first: &str, behind: &'a [String]) -> Option<Word<'a, A>> {
+    match first {
         "label" => label_word(behind),
         "draw" => draw_word(behind),
         "ways" => ways_word(behind),
         "adapt" => adapt_word(behind),
-        "show" => Some(Word::Show(only_path(behind)?)),
-        "status" => Some(Word::Status(status_words(behind)?)),
+        "show" => show_word(behind),
+        "status" => status_word(behind),
         "--help" if behind.is_empty() => Some(Word::Help),
         "--version" if behind.is_empty() => Some(Word::Version),
         _ => None,
+    }
+}
+
+// Reads what stands behind `show`: a path.
+fn show_word<A: Allocator>(words: &[String]) -> Option<Word<'_, A>> {
+    match only_path(words) {
+        Some(path) => Some(Word::Show(path)),
+        None => None,
+    }
+}
+
+// Reads what stands behind `status`.
+fn status_word<A: Allocator>(words: &[String]) -> Option<Word<'_, A>> {
+    match status_words(words) {
+        Some(asked) => Some(Word::Status(asked)),
+        None => None,
+    }
+}
+
+// Reads what stands behind `events`.
+fn events_word<A: Allocator + Copy>(
+    alloc: A,
+    words: &[String],
+) -> Result<Option<Word<'_, A>>, AllocError> {
+    match event_words(alloc, words)? {
+        Some(asked) => Ok(Some(Word::Events(asked))),
+        None => Ok(None),
     }
 }
 
