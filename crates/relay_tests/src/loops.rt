@@ -199,18 +199,37 @@ fn say<R: Wait, N: Network + Drop, D: Dir + Drop, S: Write>(
     turn(rt, turning)
 }
 
-// Whether a client hears its answer, and nothing more once a second one has written, which hears
+// Whether this client hears its answer, and nothing more once a second one has written, which hears
 // nothing.
+fn speak_in_turn<R: Wait, N: Network + Drop, D: Dir + Drop, S: Read + Write>(
+    rt: &R,
+    turning: &mut InLoop<N, D, Global>,
+    one: &mut S,
+    two: &mut S,
+) -> Result<bool, Fail> {
+    say(rt, turning, one, MESSAGE)?;
+    let first = hears(one, ANSWER)?;
+    say(rt, turning, two, OTHER)?;
+    Ok(is_silent(one) && is_silent(two) && first)
+}
+
+// The same of this client and another one.
+fn talk_with_another<R: Wait + Net, N: Network + Drop, D: Dir + Drop>(
+    rt: &R,
+    turning: &mut InLoop<N, D, Global>,
+    one: &mut R::Stream,
+) -> Result<bool, Fail> {
+    let mut two = client(rt, turning)?;
+    speak_in_turn(rt, turning, one, &mut two)
+}
+
+// The same of two clients.
 fn talk_in_turn<R: Wait + Net, N: Network + Drop, D: Dir + Drop>(
     rt: &R,
     turning: &mut InLoop<N, D, Global>,
 ) -> Result<bool, Fail> {
     let mut one = client(rt, turning)?;
-    let mut two = client(rt, turning)?;
-    say(rt, turning, &mut one, MESSAGE)?;
-    let first = hears(&mut one, ANSWER)?;
-    say(rt, turning, &mut two, OTHER)?;
-    Ok(is_silent(&mut one) && is_silent(&mut two) && first)
+    talk_with_another(rt, turning, &mut one)
 }
 
 // Whether these are what is left of two deliveries, the first of a part and the second of none, and

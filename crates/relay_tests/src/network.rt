@@ -170,6 +170,14 @@ fn are_the_messages(events: &[SinkEvent<Global>]) -> bool {
     }
 }
 
+// The same of what the sink holds.
+fn holds_the_message<S: Dir>(series: &mut Series<S, Global>) -> bool {
+    match series.content() {
+        Ok(events) => are_the_messages(&events),
+        Err(_) => false,
+    }
+}
+
 // The sink in this folder.
 fn sink_in<S: Dir + Drop>(alloc: Global, dir: S) -> Result<SinkCourier<S, Global>, Fail> {
     match Rotation::open(alloc, dir, b"all", ONE_FILE, 0) {
@@ -186,8 +194,14 @@ fn has_the_message<S: Dir + Drop>(
     let Some(dir) = sink.into_dir() else {
         return Err(Fail::from("the sink is away"));
     };
-    let mut series = Series::open(alloc, dir, b"all").map_err(|(fault, _dir)| fault)?;
-    Ok(are_the_messages(&series.content()?))
+    match Series::open(alloc, dir, b"all") {
+        Ok(mut series) => {
+            let holds = holds_the_message(&mut series);
+            drop(series.into_dir());
+            Ok(holds)
+        }
+        Err(_) => Err(Fail::from("the sink doesn't open")),
+    }
 }
 
 // Whether the hub's chunk is delivered to a sink in this folder, which has the client's event then.

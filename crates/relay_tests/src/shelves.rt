@@ -53,11 +53,25 @@ pub fn filled<D: Dir + Drop>(
     chunks: usize,
     takes: Takes<Global>,
 ) -> Result<Shelf<D>, BufferFault> {
-    let mut buffer = Buffer::open(alloc, dir, b"buf", SETTINGS).map_err(|(fault, _dir)| fault)?;
-    for _ in 0..chunks {
-        put(alloc, &mut buffer)?;
+    match Buffer::open(alloc, dir, b"buf", SETTINGS) {
+        Ok(mut buffer) => {
+            put_all(alloc, &mut buffer, chunks)?;
+            Ok(SharedBuffer::new(alloc, buffer, LEAF, takes))
+        }
+        Err((fault, _dir)) => Err(fault),
     }
-    Ok(SharedBuffer::new(alloc, buffer, LEAF, takes))
+}
+
+// Appends so many chunks and queues them.
+fn put_all<D: Dir>(
+    alloc: Global,
+    buffer: &mut Buffer<D, Global>,
+    chunks: usize,
+) -> Result<(), BufferFault> {
+    for _ in 0..chunks {
+        put(alloc, buffer)?;
+    }
+    Ok(())
 }
 
 // Appends a chunk and queues it.
