@@ -73,25 +73,25 @@ fn take_bytes<R: Wait, D: Lendable + Drop>(
     let Some(open) = &mut site.open else {
         return Ok(());
     };
-    if take_in(rt, alloc, open, link, count)? {
+    let piece = piece_of(alloc, link, count)?;
+    if take_in(rt, alloc, open, link, &piece)? {
         return Ok(());
     }
     judge.fail_message(link.message, "isn't taken in")
 }
 
-// Some bytes reach the relay; `false` where it can't take them.
+// These bytes reach the relay; `false` where it can't take them.
 fn take_in<R: Wait, D: Lendable + Drop>(
     rt: &R,
     alloc: Global,
     open: &mut OpenSite<D>,
     link: &mut Link,
-    count: usize,
+    piece: &[u8],
 ) -> Result<bool, AllocError> {
-    let piece = piece_of(alloc, link, count)?;
     let Some(mut peer) = take_peer(alloc, open, link)? else {
         return Ok(false);
     };
-    let taken = peer.receive(rt, alloc, &piece, &mut open.lanes, &mut open.numbers);
+    let taken = peer.receive(rt, alloc, piece, &mut open.lanes, &mut open.numbers);
     if let Some(other) = link.peer.replace(peer) {
         other.end(rt, &mut open.lanes);
     }
@@ -263,10 +263,11 @@ fn note_append<R: Wait, D: Lendable + Drop>(
 ) -> Result<(), AllocError> {
     let serial = growing_chunk(rt, site, buffer, tag);
     let line = judge.tell(format!(in alloc; "append {delivery} {buffer} {serial}")?)?;
+    let bytes = Vec::from_slice(alloc, entries)?;
     let append = Appended {
         delivery,
         line,
-        bytes: Vec::from_slice(alloc, entries)?,
+        bytes,
         is_synced: false,
     };
     site.chunks.append(alloc, buffer, serial, tag, append)

@@ -46,6 +46,20 @@ pub enum Found {
 }
 
 impl Chunk {
+    // A staged chunk without entries.
+    fn new(alloc: Global, buffer: usize, serial: u64, tag: &[u8]) -> Result<Chunk, AllocError> {
+        Ok(Chunk {
+            buffer,
+            serial,
+            tag: Vec::from_slice(alloc, tag)?,
+            appends: Vec::new(alloc),
+            stage: Stage::Staged,
+            queued: None,
+            went: 0,
+            is_synced: false,
+        })
+    }
+
     /// How many of its appends these bytes are.
     pub fn found(&self, bytes: &[u8]) -> Found {
         let mut rest = bytes;
@@ -161,18 +175,10 @@ impl Chunks {
             chunk.appends.push(append)?;
             return Ok(());
         }
-        let mut appends = Vec::new(alloc);
-        appends.push(append)?;
-        self.all.push(Chunk {
-            buffer,
-            serial,
-            tag: Vec::from_slice(alloc, tag)?,
-            appends,
-            stage: Stage::Staged,
-            queued: None,
-            went: 0,
-            is_synced: false,
-        })?;
+        self.all.reserve(1)?;
+        let mut chunk = Chunk::new(alloc, buffer, serial, tag)?;
+        chunk.appends.push(append)?;
+        self.all.push_reserved(chunk);
         if let Some(next) = self.next.get_mut(buffer) {
             *next = serial.saturating_add(1);
         }

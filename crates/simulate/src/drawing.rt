@@ -3,6 +3,7 @@
 use crate::dice::Dice;
 use crate::playing::FIRST_PORT;
 use std::alloc::{AllocError, Global};
+use std::fmt::Write;
 
 /// A network's texts, the number of its first relay, behind which those of the others follow, and
 /// how many acts its run has.
@@ -26,26 +27,46 @@ struct Place {
 /// Draws a network of one to four relays, each of which sends to those behind it, with two clients.
 pub fn draw(alloc: Global, dice: &mut Dice) -> Result<Drawing, AllocError> {
     let count = dice.below(4).saturating_add(1);
-    let first = dice.below(100) as u32 + 1;
-    let mut plan = String::new(alloc);
-    let mut confs = Vec::new(alloc);
+    let mut drawing = Drawing {
+        first: dice.below(100) as u32 + 1,
+        plan: String::new(alloc),
+        confs: Vec::new(alloc),
+        acts: 0,
+    };
     for at in 0..count {
-        let number = at.saturating_add(first as usize);
-        plan.push_str(format!(in alloc;
-            "relay {number} 127.0.0.1 {number} {number}.conf\n"
-        )?.as_str())?;
-        confs.push(relay(alloc, dice, at, count)?.into_bytes())?;
+        put_relay(alloc, dice, &mut drawing, at, count)?;
     }
+    put_clients(&mut drawing)?;
+    drawing.acts = dice.below(200) as u64 + 20;
+    Ok(drawing)
+}
+
+// A relay's line and its configuration.
+fn put_relay(
+    alloc: Global,
+    dice: &mut Dice,
+    drawing: &mut Drawing,
+    at: usize,
+    count: usize,
+) -> Result<(), AllocError> {
+    let number = at.saturating_add(drawing.first as usize);
+    write!(
+        &mut drawing.plan,
+        "relay {number} 127.0.0.1 {number} {number}.conf\n"
+    )?;
+    let conf = relay(alloc, dice, at, count)?;
+    drawing.confs.push(conf.into_bytes())?;
+    Ok(())
+}
+
+// The lines of both clients.
+fn put_clients(drawing: &mut Drawing) -> Result<(), AllocError> {
+    let first = drawing.first;
     for source in 0..2usize {
         let port = port_of(0, source);
-        plan.push_str(format!(in alloc; "client {first} {port} a.** b\n")?.as_str())?;
+        write!(&mut drawing.plan, "client {first} {port} a.** b\n")?;
     }
-    Ok(Drawing {
-        first,
-        plan,
-        confs,
-        acts: dice.below(200) as u64 + 20,
-    })
+    Ok(())
 }
 
 // A relay with two sources, and with matches of which the last takes every tag.
@@ -56,21 +77,29 @@ fn relay(alloc: Global, dice: &mut Dice, at: usize, count: usize) -> Result<Stri
         count,
         outputs: 0,
     };
+    put_rules(alloc, dice, &mut text, &mut place)?;
+    Ok(text)
+}
+
+// Its matches, and a label where one of them may lead to it.
+fn put_rules(
+    alloc: Global,
+    dice: &mut Dice,
+    text: &mut String,
+    place: &mut Place,
+) -> Result<(), AllocError> {
     let labelled = dice.once_in(4);
     for pattern in &["a.*", "*.a.*", "{b,p.b}", "**"] {
-        if *pattern != "**" && dice.once_in(2) {
-            continue;
+        if *pattern == "**" || !dice.once_in(2) {
+            put_rule(alloc, dice, text, place, pattern, labelled)?;
         }
-        let rule = rule(alloc, dice, &mut place, pattern, labelled)?;
-        text.push_str(rule.as_str())?;
     }
     if labelled {
-        let rule = rule(alloc, dice, &mut place, "**", false)?;
         text.push_str("<label @ON>\n")?;
-        text.push_str(rule.as_str())?;
+        put_rule(alloc, dice, text, place, "**", false)?;
         text.push_str("</label>\n")?;
     }
-    Ok(text)
+    Ok(())
 }
 
 // The port of a source of the relay at this place.
@@ -95,22 +124,39 @@ fn sources(alloc: Global, dice: &mut Dice, at: usize) -> Result<String, AllocErr
 }
 
 // A match with one output, or with two.
-fn rule(
+fn put_rule(
     alloc: Global,
     dice: &mut Dice,
+    text: &mut String,
     place: &mut Place,
     pattern: &str,
     labelled: bool,
-) -> Result<String, AllocError> {
+) -> Result<(), AllocError> {
     if labelled && dice.once_in(3) {
-        return format!(in alloc; "<match {pattern}>\n  @type relabel\n  @label @ON\n</match>\n");
+        return write!(
+            text,
+            "<match {pattern}>\n  @type relabel\n  @label @ON\n</match>\n"
+        );
     }
     let one = output(alloc, dice, place)?;
-    if !dice.once_in(3) {
-        return format!(in alloc; "<match {pattern}>\n{one}</match>\n");
+    if dice.once_in(3) {
+        return put_copy(alloc, dice, text, place, pattern, &one);
     }
+    write!(text, "<match {pattern}>\n{one}</match>\n")
+}
+
+// A match with this output and another.
+fn put_copy(
+    alloc: Global,
+    dice: &mut Dice,
+    text: &mut String,
+    place: &mut Place,
+    pattern: &str,
+    one: &str,
+) -> Result<(), AllocError> {
     let other = output(alloc, dice, place)?;
-    format!(in alloc;
+    write!(
+        text,
         "<match {pattern}>\n  @type copy\n  <store>\n{one}  </store>\n  <store>\n{other}  </store>\n</match>\n"
     )
 }

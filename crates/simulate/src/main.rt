@@ -70,9 +70,7 @@ fn run_all<R: Wait + Clock + Print + AllocGlobal>(
 ) -> io::Result<u8> {
     for seed in first..first.saturating_add(count) {
         let drawn = Drawn::new(rt.alloc(), seed)?;
-        let acts = drawn.acts(rt.alloc())?;
-        if let Some(what) = drawn.wrong_with(rt, rt.alloc(), &acts)? {
-            print_wrong(rt, &drawn, what.as_str())?;
+        if is_wrong(rt, &drawn)? {
             return Ok(1);
         }
     }
@@ -80,19 +78,47 @@ fn run_all<R: Wait + Clock + Print + AllocGlobal>(
     Ok(0)
 }
 
+// Whether a run is wrong, which is printed then.
+fn is_wrong<R: Wait + Clock + Print + AllocGlobal>(rt: &R, drawn: &Drawn) -> io::Result<bool> {
+    let acts = drawn.acts(rt.alloc())?;
+    is_wrong_with(rt, drawn, &acts)
+}
+
+// The same of the run that has these acts alone.
+fn is_wrong_with<R: Wait + Clock + Print + AllocGlobal>(
+    rt: &R,
+    drawn: &Drawn,
+    acts: &[u64],
+) -> io::Result<bool> {
+    match drawn.wrong_with(rt, rt.alloc(), acts)? {
+        Some(what) => {
+            print_wrong(rt, drawn, what.as_str())?;
+            Ok(true)
+        }
+        None => Ok(false),
+    }
+}
+
 // The run of this seed; where it is wrong, one with fewer acts, whose numbers are printed behind
 // it.
 fn run_shorter<R: Wait + Clock + Print + AllocGlobal>(rt: &R, seed: u64) -> io::Result<u8> {
     let drawn = Drawn::new(rt.alloc(), seed)?;
     let all = drawn.acts(rt.alloc())?;
+    shorten_wrong(rt, &drawn, all)
+}
+
+// The same of the run with these acts.
+fn shorten_wrong<R: Wait + Clock + Print + AllocGlobal>(
+    rt: &R,
+    drawn: &Drawn,
+    all: Vec<u64>,
+) -> io::Result<u8> {
     if drawn.wrong_with(rt, rt.alloc(), &all)?.is_none() {
         println!(rt; "1 runs")?;
         return Ok(0);
     }
-    let acts = shorten(rt, rt.alloc(), &drawn, all)?;
-    if let Some(what) = drawn.wrong_with(rt, rt.alloc(), &acts)? {
-        print_wrong(rt, &drawn, what.as_str())?;
-    }
+    let acts = shorten(rt, rt.alloc(), drawn, all)?;
+    is_wrong_with(rt, drawn, &acts)?;
     println!(rt; "== acts\n{acts:?}")?;
     Ok(1)
 }

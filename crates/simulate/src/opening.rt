@@ -96,10 +96,21 @@ fn put_together<D: Lendable + Drop>(
 
 // What the configuration says.
 fn setup(alloc: Global, number: u32, conf: &[u8]) -> Option<SetupParts<Global>> {
-    let elements = conf_text::read(alloc, conf).ok()?;
-    let relay = Relay::read(alloc, &elements).ok()?;
-    let setup = RelaySetup::new(alloc, relay, number).ok()?;
-    Some(setup.into_parts())
+    let Some(relay) = relay_of(alloc, conf) else {
+        return None;
+    };
+    match RelaySetup::new(alloc, relay, number) {
+        Ok(setup) => Some(setup.into_parts()),
+        Err(_) => None,
+    }
+}
+
+// The relay of a configuration.
+fn relay_of(alloc: Global, conf: &[u8]) -> Option<Relay<Global>> {
+    match conf_text::read(alloc, conf) {
+        Ok(elements) => Relay::read(alloc, &elements).ok(),
+        Err(_) => None,
+    }
 }
 
 // Where messages come in, by the numbers of the sources.
@@ -136,18 +147,32 @@ fn open_sinks<D: Lendable + Drop>(
 ) -> Result<Option<Vec<Option<SinkCourier<D, Global>>>>, AllocError> {
     let mut all = Vec::new(alloc);
     for output in outputs {
-        let sink = match output {
-            BufferedOutput::Forward(_) => None,
-            BufferedOutput::File(settings) => {
-                let Some(sink) = open_sink(alloc, shelf, settings.path.as_bytes())? else {
-                    return Ok(None);
-                };
-                Some(sink)
-            }
-        };
-        all.push(sink)?;
+        if !put_sink(alloc, shelf, output, &mut all)? {
+            return Ok(None);
+        }
     }
     Ok(Some(all))
+}
+
+// Adds the sink of this output, or that it has none; `false` where it doesn't open.
+fn put_sink<D: Lendable + Drop>(
+    alloc: Global,
+    shelf: &Shelf<D>,
+    output: &BufferedOutput<Global>,
+    all: &mut Vec<Option<SinkCourier<D, Global>>>,
+) -> Result<bool, AllocError> {
+    all.reserve(1)?;
+    let BufferedOutput::File(settings) = output else {
+        all.push_reserved(None);
+        return Ok(true);
+    };
+    match open_sink(alloc, shelf, settings.path.as_bytes())? {
+        Some(sink) => {
+            all.push_reserved(Some(sink));
+            Ok(true)
+        }
+        None => Ok(false),
+    }
 }
 
 fn open_sink<D: Lendable + Drop>(

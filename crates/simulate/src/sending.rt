@@ -137,6 +137,12 @@ pub fn put_link(
     Ok(())
 }
 
+// Copies of both.
+fn copies(alloc: Global, one: &[u8], other: &[u8]) -> Result<(Vec<u8>, Vec<u8>), AllocError> {
+    let one = Vec::from_slice(alloc, one)?;
+    Ok((one, Vec::from_slice(alloc, other)?))
+}
+
 // A connection on which the message is sent; `None` where it can't be.
 fn new_link(
     alloc: Global,
@@ -149,8 +155,7 @@ fn new_link(
     let Some(client) = session(alloc, letter)? else {
         return Ok(None);
     };
-    let bytes = Vec::from_slice(alloc, client.outgoing())?;
-    let entries = Vec::from_slice(alloc, letter.entries.as_bytes())?;
+    let (bytes, entries) = copies(alloc, client.outgoing(), letter.entries.as_bytes())?;
     Ok(Some(Link {
         sender,
         message,

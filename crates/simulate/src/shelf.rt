@@ -83,15 +83,31 @@ impl<D: Lendable> Shelf<D> {
     // Where a folder of this name is from now on.
     fn new_home(&self, name: &[u8]) -> Result<D::Home, AllocError> {
         let home = D::new_home(self.alloc)?;
-        let named = Named {
-            name: Vec::from_slice(self.alloc, name)?,
-            home: D::share(&home)?,
-        };
+        self.keep(name, &home)?;
+        Ok(home)
+    }
+
+    // A folder of this name is there from now on.
+    fn keep(&self, name: &[u8], home: &D::Home) -> Result<(), AllocError> {
+        let named = home_named(self.alloc, name, home)?;
         if let Ok(mut homes) = self.homes.try_borrow_mut() {
             homes.push(named)?;
         }
-        Ok(home)
+        Ok(())
     }
+}
+
+// Where a folder is, with its name.
+fn home_named<D: Lendable>(
+    alloc: Global,
+    name: &[u8],
+    home: &D::Home,
+) -> Result<Named<D>, AllocError> {
+    let name = Vec::from_slice(alloc, name)?;
+    Ok(Named {
+        name,
+        home: D::share(home)?,
+    })
 }
 
 // Where the folder of this name is among these.

@@ -134,25 +134,10 @@ impl<'n, D: Lendable + Drop> Run<'n, D> {
         source: usize,
         asks: bool,
     ) -> Result<(), AllocError> {
-        let Some((tag, entries)) = body_of(rt, self.alloc, &self.held, name)? else {
-            let what = String::from_str(self.alloc, "a chunk can't be read")?;
-            refuse(&mut self.sites, &mut self.judge, name.site, what);
-            return Ok(());
-        };
-        let Some(id) = id_of(&self.held, name) else {
-            return Ok(());
-        };
-        let line = forward_line(self.alloc, number_of(&self.sites, name.site), name)?;
-        self.judge.tell(line)?;
-        let message = self.judge.next_message();
-        let letter = Letter {
-            tag: &tag,
-            entries: &entries,
-            id,
-            asks,
-        };
-        let (links, sender) = (&mut self.links, Sender::Chunk(name));
-        put_link(self.alloc, links, sender, message, to, source, &letter)?;
+        match body_of(rt, self.alloc, &self.held, name)? {
+            Some((tag, entries)) => self.send_on(name, &tag, &entries, to, source, asks)?,
+            None => return self.miss_body(name),
+        }
         if asks {
             return Ok(());
         }
@@ -160,6 +145,39 @@ impl<'n, D: Lendable + Drop> Run<'n, D> {
             Some(evidence) => self.let_go_as(rt, name, evidence, "", "done"),
             None => Ok(()),
         }
+    }
+
+    // A claimed chunk can't be read.
+    fn miss_body(&mut self, name: Name) -> Result<(), AllocError> {
+        let what = String::from_str(self.alloc, "a chunk can't be read")?;
+        refuse(&mut self.sites, &mut self.judge, name.site, what);
+        Ok(())
+    }
+
+    // A claimed chunk, which has this tag and these entries, is sent.
+    fn send_on(
+        &mut self,
+        name: Name,
+        tag: &[u8],
+        entries: &Entries<Global>,
+        to: usize,
+        source: usize,
+        asks: bool,
+    ) -> Result<(), AllocError> {
+        let Some(id) = id_of(&self.held, name) else {
+            return Ok(());
+        };
+        let line = forward_line(self.alloc, number_of(&self.sites, name.site), name)?;
+        self.judge.tell(line)?;
+        let message = self.judge.next_message();
+        let letter = Letter {
+            tag,
+            entries,
+            id,
+            asks,
+        };
+        let (links, sender) = (&mut self.links, Sender::Chunk(name));
+        put_link(self.alloc, links, sender, message, to, source, &letter)
     }
 
     /// A buffer's oldest queued chunk goes, where its output drops the oldest. Where devices may
