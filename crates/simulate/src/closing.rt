@@ -208,6 +208,12 @@ fn content_of<D: Lendable + Drop>(
     dir: D,
     path: &[u8],
 ) -> Option<Vec<SinkEvent<Global>>> {
-    let mut series = Series::open(alloc, dir, path).ok()?;
-    series.content().ok()
+    match Series::open(alloc, dir, path) {
+        Ok(mut series) => {
+            let content = series.content().ok();
+            drop(series.into_dir());
+            content
+        }
+        Err(_) => None,
+    }
 }

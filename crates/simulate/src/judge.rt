@@ -67,6 +67,12 @@ impl<'n> Judge<'n> {
         Ok(())
     }
 
+    /// This is wrong of an event that was acknowledged.
+    pub fn fail_event(&mut self, event: usize, what: &str) -> Result<(), AllocError> {
+        self.fail(format!(in self.alloc; "event {event} {what}")?);
+        Ok(())
+    }
+
     /// This is wrong of a relay.
     pub fn fail_relay(&mut self, relay: u32, what: &str) -> Result<(), AllocError> {
         self.fail(format!(in self.alloc; "relay {relay} {what}")?);

@@ -167,10 +167,7 @@ impl<'n, D: Lendable + Drop> Run<'n, D> {
     // Each event that was acknowledged to a client is kept as the plan asks.
     fn ask_for_all(&mut self, plan: &Plan<Global>) -> Result<(), AllocError> {
         for number in 0..self.judge.world.acknowledged().len() {
-            if !is_kept_as(&self.judge.world, plan.duty(), number)? {
-                self.judge
-                    .fail(format!(in self.alloc; "event {number} isn't kept")?);
-            }
+            ask_for(&mut self.judge, plan, number)?;
         }
         Ok(())
     }
@@ -194,6 +191,14 @@ impl<'n, D: Lendable + Drop> Run<'n, D> {
         end_sites(rt, sites);
         said(alloc, &judge)
     }
+}
+
+// This event, by its place among those that were acknowledged, is kept as the plan asks.
+fn ask_for(judge: &mut Judge<'_>, plan: &Plan<Global>, number: usize) -> Result<(), AllocError> {
+    if is_kept_as(&judge.world, plan.duty(), number)? {
+        return Ok(());
+    }
+    judge.fail_event(number, "isn't kept")
 }
 
 // Whether the relay at this place has to be opened again.

@@ -75,10 +75,10 @@ fn session(
     alloc: Global,
     letter: &Letter<'_>,
 ) -> Result<Option<ClientSession<Global>>, AllocError> {
-    let mut client = ClientSession::open(alloc, None, [0; 16])?;
     if letter.tag.len() > LONGEST_TAG || letter.entries.as_bytes().len() > u32::MAX as usize {
         return Ok(None);
     }
+    let mut client = ClientSession::open(alloc, None, [0; 16])?;
     client.send(letter.tag, letter.entries, letter.id, letter.asks)?;
     Ok(Some(client))
 }

@@ -77,6 +77,11 @@ impl<D: Lendable + Drop> Site<D> {
         self.open.as_ref()?.buffers.get(buffer)
     }
 
+    /// The sink of the output with this number, if the relay is open and the output has one.
+    pub fn sink(&self, buffer: usize) -> Option<&SinkCourier<D, Global>> {
+        self.open.as_ref()?.sinks.get(buffer)?.as_ref()
+    }
+
     /// How many buffers it has.
     pub fn count_buffers(&self) -> usize {
         match &self.open {

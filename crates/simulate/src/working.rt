@@ -13,6 +13,7 @@ use crate::sending::{Letter, put_link};
 use crate::site::Site;
 use ack_receipt::Evidence;
 use event_modes::{ChunkId, Entries};
+use flush_pool::SinkCourier;
 use relay_ports::BufferedOutput;
 use std::alloc::{AllocError, Global};
 use std::sync::Wait;
@@ -297,10 +298,18 @@ fn stored<R: Wait + Clock, D: Lendable + Drop>(
     all: &[Held<D>],
     name: Name,
 ) -> Option<Evidence<Global>> {
-    let held = held_of(all, name)?;
-    let open = sites.get(name.site)?.open.as_ref()?;
-    let sink = open.sinks.get(name.buffer)?.as_ref()?;
-    held.carried(rt, sink)
+    match (held_of(all, name), sink_of(sites, name)) {
+        (Some(held), Some(sink)) => held.carried(rt, sink),
+        _ => None,
+    }
+}
+
+// The sink of a chunk's output, if the relay is open and the output has one.
+fn sink_of<D: Lendable + Drop>(sites: &[Site<D>], name: Name) -> Option<&SinkCourier<D, Global>> {
+    match sites.get(name.site) {
+        Some(site) => site.sink(name.buffer),
+        None => None,
+    }
 }
 
 // The tag and the entries of a claimed chunk.
