@@ -18,8 +18,9 @@ pub fn is_printed<F: Display>(alloc: Global, fault: &F, code: &str) -> bool {
     }
 }
 
-fn are_printed(alloc: Global) -> bool {
-    for (fault, code) in &CODES {
+/// Whether each of these faults prints its code.
+pub fn are_printed<F: Display>(alloc: Global, rows: &[(F, &str)]) -> bool {
+    for (fault, code) in rows {
         if !is_printed(alloc, fault, code) {
             return false;
         }
@@ -30,5 +31,5 @@ fn are_printed(alloc: Global) -> bool {
 // What the fault of a step prints.
 #[test]
 fn faults_print_their_codes(rt: HostRuntime) {
-    assert!(rt; are_printed(rt.alloc()));
+    assert!(rt; are_printed(rt.alloc(), &CODES));
 }

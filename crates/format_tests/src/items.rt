@@ -1,7 +1,7 @@
 //! MessagePack items: vectors from outside, printed text, and that the calls succeed, which no
 //! clause says.
 
-use crate::codes::is_printed;
+use crate::codes::are_printed;
 use msgpack_bytes::{
     Head, MsgFault, PieceScan, Scan, Scanner, head, put_array, put_bin, put_bool, put_map, put_str,
     put_uint, scan,
@@ -537,16 +537,7 @@ static FAULTS: [(MsgFault, &str); 3] = [
     (MsgFault::TooLong, "M3"),
 ];
 
-fn are_printed(alloc: Global) -> bool {
-    for (fault, code) in &FAULTS {
-        if !is_printed(alloc, fault, code) {
-            return false;
-        }
-    }
-    true
-}
-
 #[test]
 fn prints_faults(rt: HostRuntime) {
-    assert!(rt; are_printed(rt.alloc()));
+    assert!(rt; are_printed(rt.alloc(), &FAULTS));
 }
