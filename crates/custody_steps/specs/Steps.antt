@@ -40,45 +40,17 @@ abbrev pub sink_named : {A : Type 0} → Network A → World → ℕ → ℕ →
 sink_named net w relay buffer = option_map_or (λ place. (w.buffers place buffer).sink)
     (place_of net relay) []
 
--- Everything that the step names is there.
-abbrev pub Names : {A : Type 0} → Network A → World → Step A → Type 0
-Names net w (step.Send client tag entries) = client < length net.clients
-Names net w (step.Begin message) = message < length w.messages
-Names net w (step.Append delivery buffer serial) = IsSomeAnd (slice_get w.deliveries delivery)
-    (λ d. IsSome (output_at net d.entrance.relay buffer))
-Names net w (step.Ack delivery) = delivery < length w.deliveries
-Names net w (step.Abandon delivery) = delivery < length w.deliveries
-Names net w (step.Foreign message) = message < length w.messages
-Names net w (step.Enqueue name) = IsSome (chunk_named net w name)
-Names net w (step.Claim name) = IsSome (chunk_named net w name)
-Names net w (step.Back name) = IsSome (chunk_named net w name)
-Names net w (step.Forward name server) = IsSome (chunk_named net w name)
-    × IsSomeAnd (output_named net name) (λ o. server < length (servers_of o))
-Names net w (step.Seen name) = IsSome (chunk_named net w name)
-Names net w (step.Write name) = IsSome (chunk_named net w name)
-Names net w (step.Part name count) = IsSome (chunk_named net w name)
-Names net w (step.Purge name) = IsSome (chunk_named net w name)
-Names net w (step.Done name) = IsSome (chunk_named net w name)
-Names net w (step.Discard name) = IsSome (chunk_named net w name)
-Names net w (step.Oldest relay buffer) = IsSomeAnd (place_of net relay)
-    (λ place. IsSome (output_at net place buffer))
-Names net w (step.Restart relay) = IsSome (place_of net relay)
-
--- When a step is allowed.
+-- What a step asks for.
 
 -- an output to further relays, and whether it asks for acknowledgements
 abbrev pub Forwards : {A : Type 0} → Bool → Output A → Type 0
-Forwards asks (output.Null line) = ⊥
-Forwards asks (output.Relabel target line) = ⊥
 Forwards asks (output.Forward settings line) = settings.require_ack_response ≡ asks
-Forwards asks (output.File settings line) = ⊥
+Forwards asks _ = ⊥
 
 -- an output into a sink
 abbrev pub Stores : {A : Type 0} → Output A → Type 0
-Stores (output.Null line) = ⊥
-Stores (output.Relabel target line) = ⊥
-Stores (output.Forward settings line) = ⊥
 Stores (output.File settings line) = Unit {0}
+Stores _ = ⊥
 
 -- the output gives a chunk up in the end
 abbrev pub GivesUp : {A : Type 0} → Output A → Type 0
@@ -135,43 +107,7 @@ abbrev pub OfChunk : {A : Type 0} → Network A → World → ChunkName → Stag
 OfChunk net w name stage P = IsSomeAnd (chunk_named net w name)
     (λ chunk. (chunk.stage ≡ stage) × P chunk)
 
--- What the step asks for holds.
-abbrev pub Allowed : {A : Type 0} → Network A → World → Step A → Type 0
-Allowed net w (step.Send client tag entries) = IsSomeAnd (slice_get net.clients client)
-    (λ found. HaveTag found.patterns.items tag)
-Allowed net w (step.Begin message) = IsSomeAnd (slice_get w.messages message) (CanBegin net)
-Allowed net w (step.Append delivery buffer serial) =
-    OfDelivery w delivery (λ d m. CanAppend net w d m buffer serial)
-Allowed net w (step.Ack delivery) = OfDelivery w delivery (CanAcknowledge net)
-Allowed net w (step.Abandon delivery) = IsSomeAnd (slice_get w.deliveries delivery)
-    (λ d. d.is_open ≡ true)
-Allowed net w (step.Foreign message) = IsSomeAnd (slice_get w.messages message)
-    (λ m. entrance net m.address ≡ None)
-Allowed net w (step.Enqueue name) = OfChunk net w name Staged (λ _. Unit {0})
-Allowed net w (step.Claim name) = OfChunk net w name Queued (λ _. Unit {0})
-Allowed net w (step.Back name) = OfChunk net w name Claimed (λ _. Unit {0})
-Allowed net w (step.Forward name server) =
-    OfChunk net w name Claimed (λ _. IsSomeAnd (output_named net name)
-    (λ o. Forwards true o ⊎ Forwards false o))
-Allowed net w (step.Seen name) =
-    OfChunk net w name Claimed (λ _. IsSomeAnd (output_named net name) (Forwards true)
-    × IsSomeAnd (place_of net name.relay) (λ place. IsAnswered w place name.buffer name.serial))
-Allowed net w (step.Write name) =
-    OfChunk net w name Claimed (λ _. IsSomeAnd (output_named net name) Stores)
-Allowed net w (step.Part name count) =
-    OfChunk net w name Claimed (λ chunk. IsSomeAnd (output_named net name) Stores
-    × (count ≤ length chunk.entries))
-Allowed net w (step.Purge name) = OfChunk net w name Claimed (λ chunk. chunk.evidence ≡ true)
-Allowed net w (step.Done name) =
-    OfChunk net w name Claimed (λ chunk. IsSomeAnd (output_named net name) (Forwards false)
-    × (chunk.forwarded ≡ true))
-Allowed net w (step.Discard name) =
-    OfChunk net w name Claimed (λ _. IsSomeAnd (output_named net name) GivesUp)
-Allowed net w (step.Oldest relay buffer) = IsSomeAnd (place_of net relay) (λ place.
-    IsSomeAnd (output_at net place buffer) DropsOldest × HasQueued (w.buffers place buffer))
-Allowed net w (step.Restart relay) = Unit {0}
-
--- What a step leaves: spoken of where all that it names is there.
+-- What a step leaves.
 
 -- the world after a relay of the plan acknowledged a message to its sender
 abbrev pub answered : World → ℕ → Message → World
@@ -232,70 +168,149 @@ with_appended w delivery buffer serial = with_delivery w delivery (λ d m. recor
   deliveries = slice_set w.deliveries delivery (record d { appended = d.appended ++ buffer ∷ [] });
 })
 
+-- The steps.
+
+-- A step: everything that it names is there; what it asks for holds; and the world after it, which
+-- is spoken of where both are so.
+pub record Rule : Type 1 where
+  pub names : Type 0
+  pub allowed : Type 0
+  pub after : World
+
+-- a step of the chunk of this name: it asks for a live chunk at this stage, of which this holds
+abbrev pub of_chunk : {A : Type 0} → Network A → World → ChunkName → Stage → (Chunk → Type 0)
+    → World → Rule
+of_chunk net w name stage P after = record {
+  names = IsSome (chunk_named net w name);
+  allowed = OfChunk net w name stage P;
+  after = after;
+}
+
+-- what each step names, asks for and does
+abbrev pub rule_of : {A : Type 0} → Network A → World → Step A → Rule
+rule_of net w (step.Send client tag entries) = record {
+  names = client < length net.clients;
+  allowed = IsSomeAnd (slice_get net.clients client) (λ found. HaveTag found.patterns.items tag);
+  after = option_map_or
+      (λ found. record w {
+        messages = w.messages
+            ++ record {
+              sender = sender.Client client;
+              address = address_of_client net found;
+              tag = tag;
+              entries = map (λ entry. entry.items) entries.items;
+              acknowledged = false;
+            } ∷ [];
+      }) (slice_get net.clients client) w;
+}
+rule_of net w (step.Begin message) = record {
+  names = message < length w.messages;
+  allowed = IsSomeAnd (slice_get w.messages message) (CanBegin net);
+  after = option_map_or
+      (λ m. option_map_or
+      (λ at. record w {
+        deliveries = w.deliveries
+            ++ record {
+              message = message;
+              entrance = at;
+              tag = tag_of net m;
+              appended = [];
+              is_open = true;
+            } ∷ [];
+      }) (entrance net m.address) w) (slice_get w.messages message) w;
+}
+rule_of net w (step.Append delivery buffer serial) = record {
+  names = IsSomeAnd (slice_get w.deliveries delivery)
+      (λ d. IsSome (output_at net d.entrance.relay buffer));
+  allowed = OfDelivery w delivery (λ d m. CanAppend net w d m buffer serial);
+  after = with_appended w delivery buffer serial;
+}
+rule_of net w (step.Ack delivery) = record {
+  names = delivery < length w.deliveries;
+  allowed = OfDelivery w delivery (CanAcknowledge net);
+  after = with_delivery w delivery (λ d m. record w {
+    messages = (answered w d.message m).messages;
+    acknowledged = (answered w d.message m).acknowledged;
+    deliveries = slice_set w.deliveries delivery (ended d);
+  });
+}
+rule_of net w (step.Abandon delivery) = record {
+  names = delivery < length w.deliveries;
+  allowed = IsSomeAnd (slice_get w.deliveries delivery) (λ d. d.is_open ≡ true);
+  after = option_map_or
+      (λ d. record w { deliveries = slice_set w.deliveries delivery (ended d) })
+      (slice_get w.deliveries delivery) w;
+}
+rule_of net w (step.Foreign message) = record {
+  names = message < length w.messages;
+  allowed = IsSomeAnd (slice_get w.messages message) (λ m. entrance net m.address ≡ None);
+  after = with_answered w message;
+}
+rule_of net w (step.Enqueue name) = of_chunk net w name Staged (λ _. Unit {0})
+    (with_named net w name (λ chunk. Some (record chunk { stage = Queued })))
+rule_of net w (step.Claim name) = of_chunk net w name Queued (λ _. Unit {0})
+    (with_named net w name (λ chunk. Some (record chunk { stage = Claimed })))
+rule_of net w (step.Back name) = of_chunk net w name Claimed (λ _. Unit {0})
+    (with_named net w name (λ chunk. Some (record chunk { stage = Queued })))
+rule_of net w (step.Forward name server) = record {
+  names = IsSome (chunk_named net w name)
+      × IsSomeAnd (output_named net name) (λ o. server < length (servers_of o));
+  allowed = OfChunk net w name Claimed (λ _. IsSomeAnd (output_named net name)
+      (λ o. Forwards true o ⊎ Forwards false o));
+  after = option_map_or
+      (λ place. option_map_or
+      (λ chunk. record (with_named net w name (λ c. Some (record c { forwarded = true }))) {
+        messages = forwarded_to w.messages (sender.Chunk place name.buffer name.serial) chunk
+            (option_and_then (λ o. slice_get (servers_of o) server) (output_named net name));
+      }) (chunk_named net w name) w) (place_of net name.relay) w;
+}
+rule_of net w (step.Seen name) = of_chunk net w name Claimed
+    (λ _. IsSomeAnd (output_named net name) (Forwards true)
+    × IsSomeAnd (place_of net name.relay) (λ place. IsAnswered w place name.buffer name.serial))
+    (with_named net w name (λ chunk. Some (record chunk { evidence = true })))
+rule_of net w (step.Write name) = of_chunk net w name Claimed
+    (λ _. IsSomeAnd (output_named net name) Stores)
+    (with_named net (with_stored net w name (λ entries. entries)) name
+    (λ chunk. Some (record chunk { evidence = true })))
+rule_of net w (step.Part name count) = of_chunk net w name Claimed
+    (λ chunk. IsSomeAnd (output_named net name) Stores × (count ≤ length chunk.entries))
+    (with_stored net w name (take count))
+rule_of net w (step.Purge name) = of_chunk net w name Claimed (λ chunk. chunk.evidence ≡ true)
+    (with_named net w name (λ chunk. None))
+rule_of net w (step.Done name) = of_chunk net w name Claimed
+    (λ chunk. IsSomeAnd (output_named net name) (Forwards false) × (chunk.forwarded ≡ true))
+    (with_named net w name (λ chunk. None))
+rule_of net w (step.Discard name) = of_chunk net w name Claimed
+    (λ _. IsSomeAnd (output_named net name) GivesUp) (with_named net w name (λ chunk. None))
+rule_of net w (step.Oldest relay buffer) = record {
+  names = IsSomeAnd (place_of net relay) (λ place. IsSome (output_at net place buffer));
+  allowed = IsSomeAnd (place_of net relay) (λ place.
+      IsSomeAnd (output_at net place buffer) DropsOldest × HasQueued (w.buffers place buffer));
+  after = option_map_or (λ place. with_buffer w place buffer without_oldest) (place_of net relay)
+      w;
+}
+rule_of net w (step.Restart relay) = record {
+  names = IsSome (place_of net relay);
+  allowed = Unit {0};
+  after = option_map_or
+      (λ place. record w {
+        buffers = λ p b. cond (p == place) (started_again (is_in_memory net p b) (w.buffers p b))
+            (w.buffers p b);
+        deliveries = map (λ d. cond (d.entrance.relay == place) (ended d) d) w.deliveries;
+      }) (place_of net relay) w;
+}
+
+-- Everything that the step names is there.
+abbrev pub Names : {A : Type 0} → Network A → World → Step A → Type 0
+Names net w s = (rule_of net w s).names
+
+-- What the step asks for holds.
+abbrev pub Allowed : {A : Type 0} → Network A → World → Step A → Type 0
+Allowed net w s = (rule_of net w s).allowed
+
 -- the world after the step
 abbrev pub effect : {A : Type 0} → Network A → World → Step A → World
-effect net w (step.Send client tag entries) = option_map_or
-    (λ found. record w {
-      messages = w.messages
-          ++ record {
-            sender = sender.Client client;
-            address = address_of_client net found;
-            tag = tag;
-            entries = map (λ entry. entry.items) entries.items;
-            acknowledged = false;
-          } ∷ [];
-    }) (slice_get net.clients client) w
-effect net w (step.Begin message) = option_map_or
-    (λ m. option_map_or
-    (λ at. record w {
-      deliveries = w.deliveries
-          ++ record {
-            message = message;
-            entrance = at;
-            tag = tag_of net m;
-            appended = [];
-            is_open = true;
-          } ∷ [];
-    }) (entrance net m.address) w) (slice_get w.messages message) w
-effect net w (step.Append delivery buffer serial) = with_appended w delivery buffer serial
-effect net w (step.Ack delivery) = with_delivery w delivery (λ d m. record w {
-  messages = (answered w d.message m).messages;
-  acknowledged = (answered w d.message m).acknowledged;
-  deliveries = slice_set w.deliveries delivery (ended d);
-})
-effect net w (step.Abandon delivery) =
-    option_map_or (λ d. record w { deliveries = slice_set w.deliveries delivery (ended d) })
-    (slice_get w.deliveries delivery) w
-effect net w (step.Foreign message) = with_answered w message
-effect net w (step.Enqueue name) =
-    with_named net w name (λ chunk. Some (record chunk { stage = Queued }))
-effect net w (step.Claim name) =
-    with_named net w name (λ chunk. Some (record chunk { stage = Claimed }))
-effect net w (step.Back name) =
-    with_named net w name (λ chunk. Some (record chunk { stage = Queued }))
-effect net w (step.Forward name server) = option_map_or
-    (λ place. option_map_or
-    (λ chunk. record (with_named net w name (λ c. Some (record c { forwarded = true }))) {
-      messages = forwarded_to w.messages (sender.Chunk place name.buffer name.serial) chunk
-          (option_and_then (λ o. slice_get (servers_of o) server) (output_named net name));
-    }) (chunk_named net w name) w) (place_of net name.relay) w
-effect net w (step.Seen name) =
-    with_named net w name (λ chunk. Some (record chunk { evidence = true }))
-effect net w (step.Write name) =
-    with_named net (with_stored net w name (λ entries. entries)) name
-    (λ chunk. Some (record chunk { evidence = true }))
-effect net w (step.Part name count) = with_stored net w name (take count)
-effect net w (step.Purge name) = with_named net w name (λ chunk. None)
-effect net w (step.Done name) = with_named net w name (λ chunk. None)
-effect net w (step.Discard name) = with_named net w name (λ chunk. None)
-effect net w (step.Oldest relay buffer) =
-    option_map_or (λ place. with_buffer w place buffer without_oldest) (place_of net relay) w
-effect net w (step.Restart relay) = option_map_or
-    (λ place. record w {
-      buffers = λ p b. cond (p == place) (started_again (is_in_memory net p b) (w.buffers p b))
-          (w.buffers p b);
-      deliveries = map (λ d. cond (d.entrance.relay == place) (ended d) d) w.deliveries;
-    }) (place_of net relay) w
+effect net w s = (rule_of net w s).after
 
 -- Whole runs.
 
@@ -316,21 +331,7 @@ MayRunOut net w (step.Append delivery buffer serial) =
     OfDelivery w delivery (λ d m. (d.is_open ≡ true) × (¬ Contains d.appended buffer)
     × CanTake (w.buffers d.entrance.relay buffer) d.tag serial)
 MayRunOut net w (step.Ack delivery) = OfDelivery w delivery (λ d m. d.is_open ≡ true)
-MayRunOut net w (step.Send client tag entries) = Allowed net w (step.Send client tag entries)
-MayRunOut net w (step.Abandon delivery) = Allowed net w (step.Abandon delivery)
-MayRunOut net w (step.Foreign message) = Allowed net w (step.Foreign message)
-MayRunOut net w (step.Enqueue name) = Allowed net w (step.Enqueue name)
-MayRunOut net w (step.Claim name) = Allowed net w (step.Claim name)
-MayRunOut net w (step.Back name) = Allowed net w (step.Back name)
-MayRunOut net w (step.Forward name server) = Allowed net w (step.Forward name server)
-MayRunOut net w (step.Seen name) = Allowed net w (step.Seen name)
-MayRunOut net w (step.Write name) = Allowed net w (step.Write name)
-MayRunOut net w (step.Part name count) = Allowed net w (step.Part name count)
-MayRunOut net w (step.Purge name) = Allowed net w (step.Purge name)
-MayRunOut net w (step.Done name) = Allowed net w (step.Done name)
-MayRunOut net w (step.Discard name) = Allowed net w (step.Discard name)
-MayRunOut net w (step.Oldest relay buffer) = Allowed net w (step.Oldest relay buffer)
-MayRunOut net w (step.Restart relay) = Allowed net w (step.Restart relay)
+MayRunOut net w other = Allowed net w other
 
 -- The step is refused for this reason: it names what isn't there, or else isn't allowed, or memory
 -- ran out.

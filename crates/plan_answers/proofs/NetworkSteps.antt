@@ -17,6 +17,7 @@ use Rattle.program_text.specs.declared.reading.ReadFault.TheVariants as unread
 use Rattle.program_text.specs.declared.status.Status.{Status}
 use Rattle.program_text.specs.declared.status.Status.TheVariants.{Usage}
 use Rattle.plan_answers.specs.Networks.{AreRead, IsAnswered, IsRefusedPlan, StopsWith, IsFaultLine, IsStopLine, IsStopOf, SaysStop, PrintsStop, unread_line, PrintsCheck, PrintsReplay, AreReplayed, answer_line, answer_status, joined_status}
+use Rattle.plan_answers.specs.Networks.{says_answer, says_fault, says_stop, lists_steps, lists_no_steps, lists_fault, lists_stop, prints_lines, ends_at_answer}
 use Rattle.program_text.specs.Output.{TakesPart, IsPrinted}
 use Rattle.program_text.specs.Texts.{IsTextOf}
 
@@ -26,7 +27,7 @@ pub answered_check : (A : Type 0) (net : Option (List ℕ)) (named : List ℕ �
 answered_check A net named old new plan found lines status answered is printed = record {
   lines = lines;
   meant = answer_status found;
-  checked = inl (record { plan = plan; found = found; answered = answered; lines_are = is; is_status = refl });
+  checked = says_answer plan found answered is refl;
   printed = printed;
 }
 
@@ -45,7 +46,7 @@ refused_stop A net named fault (stop.Plan other) refused is = (subst (IsRefusedP
 refused_stop A net named fault (stop.Unread cause) refused is = tt
 
 -- what stops is printed in place of an answer
-pub stop_said : (A : Type 0) (net : Option (List ℕ)) (named : List ℕ → Option (List ℕ)) (stopped : Stop) (lines : List ℕ) → IsStopOf A net named stopped → SaysStop stopped lines
+stop_said : (A : Type 0) (net : Option (List ℕ)) (named : List ℕ → Option (List ℕ)) (stopped : Stop) (lines : List ℕ) → IsStopOf A net named stopped → SaysStop stopped lines
     → IsFaultLine A net named lines Usage ⊎ IsStopLine lines Usage
 stop_said A net named (stop.Plan fault) lines of (inl is) = inl (record { fault = fault; refused = of.0; named_fault = of.1; lines_are = is; is_status = refl })
 stop_said A net named (stop.Plan fault) lines of (inr is) = inr (record { lines_are = inl is; is_status = refl })
@@ -57,32 +58,27 @@ pub stopped_check : (A : Type 0) (net : Option (List ℕ)) (named : List ℕ →
 stopped_check A net named old new stopped status of prints = record {
   lines = prints.lines;
   meant = Usage;
-  checked = inr (stop_said A net named stopped prints.lines of prints.said);
+  checked = elim (stop_said A net named stopped prints.lines of prints.said) [
+    | inl fault ↦ says_fault fault
+    | inr cause ↦ says_stop cause
+  ];
   printed = prints.printed;
 }
 
 pub stopped_replay : (A : Type 0) (net : Option (List ℕ)) (named : List ℕ → Option (List ℕ)) (steps old new : Option (List ℕ)) (stopped : Stop) (status : Status)
     → IsStopOf A net named stopped → PrintsStop stopped old new status → PrintsReplay A net named steps old new status
-stopped_replay A net named steps old new stopped status of prints = inl (record {
-  lines = prints.lines;
-  meant = Usage;
-  replayed = inr (stop_said A net named stopped prints.lines of prints.said);
-  printed = prints.printed;
-})
+stopped_replay A net named steps old new stopped status of prints = prints_lines prints.lines Usage
+    (elim (stop_said A net named stopped prints.lines of prints.said) [
+      | inl fault ↦ lists_fault fault
+      | inr cause ↦ lists_stop cause
+    ]) prints.printed
 
 -- the writer failed in the answer's line
 pub cut_replay : (A : Type 0) (net : Option (List ℕ)) (named : List ℕ → Option (List ℕ)) (steps old new : Option (List ℕ)) (plan : Subject A) (found : Answer) (lines : List ℕ)
     → IsAnswered A net named plan found → lines ≡ answer_line found → (unseen : List ℕ) × (0 < length unseen) × TakesPart old new lines unseen
     → PrintsReplay A net named steps old new Usage
-cut_replay A net named steps old new plan found lines answered is cut = inr (record {
-  plan = plan;
-  found = found;
-  answered = answered;
-  unseen = cut.0;
-  takes = subst (λ l. TakesPart old new l cut.0) is cut.2;
-  cut = cut.1;
-  is_status = refl;
-})
+cut_replay A net named steps old new plan found lines answered is cut =
+    ends_at_answer plan found cut.0 answered (subst (λ l. TakesPart old new l cut.0) is cut.2) cut.1 refl
 
 -- more is printed behind a line
 printed_behind : (a b c : Option (List ℕ)) (front behind : List ℕ) (meant status : Status) → TakesPart a b front [] → IsPrinted b c behind meant status
@@ -102,12 +98,10 @@ printed_behind a b c front behind meant status takes printed = (
 pub whole_replay : (A : Type 0) (net : Option (List ℕ)) (named : List ℕ → Option (List ℕ)) (steps old mid new : Option (List ℕ)) (plan : Subject A) (found : Answer) (front behind : List ℕ) (after status : Status)
     → IsAnswered A net named plan found → front ≡ answer_line found → TakesPart old mid front [] → AreReplayed plan found steps behind after → IsPrinted mid new behind (joined_status found after) status
     → PrintsReplay A net named steps old new status
-whole_replay A net named steps old mid new plan found front behind after status answered is takes replayed printed = inl (record {
-  lines = front ++ behind;
-  meant = joined_status found after;
-  replayed = inl (record { plan = plan; found = found; answered = answered; behind = behind; lines_are = ap (λ l. l ++ behind) is; said = inl (after, replayed, refl) });
-  printed = printed_behind old mid new front behind (joined_status found after) status takes printed;
-})
+whole_replay A net named steps old mid new plan found front behind after status answered is takes listed printed =
+    prints_lines (front ++ behind) (joined_status found after)
+    (lists_steps plan found behind after answered listed (ap (λ l. l ++ behind) is) refl)
+    (printed_behind old mid new front behind (joined_status found after) status takes printed)
 
 -- the line of a text that isn't read is one that ends a listing
 stop_line : (fault : ReadFault) (lines : List ℕ) → lines ≡ unread_line fault → IsStopLine lines Usage
@@ -118,9 +112,7 @@ stop_line unread.Read lines is = record { lines_are = inr is; is_status = refl }
 pub unread_replay : (A : Type 0) (net : Option (List ℕ)) (named : List ℕ → Option (List ℕ)) (steps old mid new : Option (List ℕ)) (plan : Subject A) (found : Answer) (front behind : List ℕ) (fault : ReadFault) (status : Status)
     → IsAnswered A net named plan found → front ≡ answer_line found → TakesPart old mid front [] → behind ≡ unread_line fault → IsPrinted mid new behind Usage status
     → PrintsReplay A net named steps old new status
-unread_replay A net named steps old mid new plan found front behind fault status answered is takes line printed = inl (record {
-  lines = front ++ behind;
-  meant = Usage;
-  replayed = inl (record { plan = plan; found = found; answered = answered; behind = behind; lines_are = ap (λ l. l ++ behind) is; said = inr (stop_line fault behind line) });
-  printed = printed_behind old mid new front behind Usage status takes printed;
-})
+unread_replay A net named steps old mid new plan found front behind fault status answered is takes line printed =
+    prints_lines (front ++ behind) Usage
+    (lists_no_steps plan found behind answered (stop_line fault behind line) (ap (λ l. l ++ behind) is))
+    (printed_behind old mid new front behind Usage status takes printed)

@@ -1,6 +1,6 @@
 -- From steps that were run in the network of a plan to what is said of the text that they come
 -- from.
-use Rattle.std.proofs.Common.{Result, ℕ, List, length, inl}
+use Rattle.std.proofs.Common.{Result, ℕ, List, length}
 use Rattle.std.specs.Prelude.{IfOk}
 use Rattle.std.proofs.lemmas.Result.{IfOk-weaker}
 use Rattle.custody_core.specs.Custody.{EachBranchKeeps, NothingIsLost, NothingIsMadeUp}
@@ -17,7 +17,7 @@ use Rattle.relay_net.specs.Network.{Network}
 use Rattle.step_lines.specs.StepLines.{SayAll}
 use Rattle.step_lines.specs.declared.step.Step.{Step}
 use Rattle.text_lines.specs.Lines.{text_lines}
-use Rattle.plan_answers.specs.Replays.{IsReplayed, IsWorldListing, IsYesEarned}
+use Rattle.plan_answers.specs.Replays.{IsReplayed, lists_fates, IsWorldListing, IsYesEarned}
 
 -- The steps lead to the world in the network, and this is known of it.
 pub record IsRun {A : Type 0} (net : Network A) (steps : List (Step A)) (w : World) : Type 0 where
@@ -32,7 +32,7 @@ pub taken_listed : {A S E : Type 0} (plan : Subject A) (found : Answer) (text : 
     → IfOk listed (λ said. IsWorldListing plan.duty plan.net w (length steps) (lines said) (status said)) → IfOk listed (λ said. IsReplayed plan found text (lines said) (status said))
 taken_listed plan found text steps w listed lines status read ran distinct earned = IfOk-weaker listed
     (λ said. IsWorldListing plan.duty plan.net w (length steps) (lines said) (status said)) (λ said. IsReplayed plan found text (lines said) (status said))
-    (λ said is. inl (record {
+    (λ said is. lists_fates (record {
       steps = steps;
       read = read;
       world = w;

@@ -117,20 +117,14 @@ pub record IsStopLine (lines : List ℕ) (status : Status) : Type 0 where
   pub lines_are : (lines ≡ memory_line) ⊎ (lines ≡ read_line)
   pub is_status : status ≡ Usage
 
--- The plan that is read has an answer, and this is its line.
-pub record IsAnswerLine (A : Type 0) (net : Option (List ℕ)) (named : List ℕ → Option (List ℕ))
+-- What `check` prints of a plan: the line of its answer, or the line that says why there is none.
+pub data IsChecked (A : Type 0) (net : Option (List ℕ)) (named : List ℕ → Option (List ℕ))
     (lines : List ℕ) (status : Status) : Type 0 where
-  pub plan : Subject A
-  pub found : Answer
-  pub answered : IsAnswered A net named plan found
-  pub lines_are : lines ≡ answer_line found
-  pub is_status : status ≡ answer_status found
-
--- what `check` prints of a plan
-abbrev pub IsChecked : (A : Type 0) → Option (List ℕ) → (List ℕ → Option (List ℕ)) → List ℕ → Status
-    → Type 0
-IsChecked A net named lines status = IsAnswerLine A net named lines status
-    ⊎ (IsFaultLine A net named lines status ⊎ IsStopLine lines status)
+  says_answer : (plan : Subject A) (found : Answer) → IsAnswered A net named plan found
+      → lines ≡ answer_line found → status ≡ answer_status found
+      → IsChecked A net named lines status
+  says_fault : IsFaultLine A net named lines status → IsChecked A net named lines status
+  says_stop : IsStopLine lines status → IsChecked A net named lines status
 
 -- the status of a plan's answer and of steps in it: a no stays a no, whatever becomes of the events
 abbrev pub joined_status : Answer → Status → Status
@@ -139,22 +133,19 @@ joined_status (answer.No rule place) Done = No
 joined_status (answer.No rule place) No = No
 joined_status (answer.No rule place) Usage = Usage
 
--- Behind the line of the answer this stands of the steps.
-pub record IsBehindAnswer (A : Type 0) (net : Option (List ℕ)) (named : List ℕ → Option (List ℕ))
+-- What `replay` prints of a plan and steps: behind the line of the answer what is listed of the
+-- steps, or the line that says why they aren't read; or why there is no answer.
+pub data IsReplayedIn (A : Type 0) (net : Option (List ℕ)) (named : List ℕ → Option (List ℕ))
     (steps : Option (List ℕ)) (lines : List ℕ) (status : Status) : Type 0 where
-  pub plan : Subject A
-  pub found : Answer
-  pub answered : IsAnswered A net named plan found
-  pub behind : List ℕ
-  pub lines_are : lines ≡ answer_line found ++ behind
-  pub said : ((after : Status) × AreReplayed plan found steps behind after
-      × (status ≡ joined_status found after)) ⊎ IsStopLine behind status
-
--- what `replay` prints of a plan and steps
-abbrev pub IsReplayedIn : (A : Type 0) → Option (List ℕ) → (List ℕ → Option (List ℕ))
-    → Option (List ℕ) → List ℕ → Status → Type 0
-IsReplayedIn A net named steps lines status = IsBehindAnswer A net named steps lines status
-    ⊎ (IsFaultLine A net named lines status ⊎ IsStopLine lines status)
+  lists_steps : (plan : Subject A) (found : Answer) (behind : List ℕ) (after : Status)
+      → IsAnswered A net named plan found → AreReplayed plan found steps behind after
+      → lines ≡ answer_line found ++ behind → status ≡ joined_status found after
+      → IsReplayedIn A net named steps lines status
+  lists_no_steps : (plan : Subject A) (found : Answer) (behind : List ℕ)
+      → IsAnswered A net named plan found → IsStopLine behind status
+      → lines ≡ answer_line found ++ behind → IsReplayedIn A net named steps lines status
+  lists_fault : IsFaultLine A net named lines status → IsReplayedIn A net named steps lines status
+  lists_stop : IsStopLine lines status → IsReplayedIn A net named steps lines status
 
 -- What a writer gets.
 
@@ -166,27 +157,12 @@ pub record PrintsCheck (A : Type 0) (net : Option (List ℕ)) (named : List ℕ 
   pub checked : IsChecked A net named lines meant
   pub printed : IsPrinted old new lines meant status
 
--- `replay` ends where the writer fails in the answer's line, before it reads steps.
-pub record EndsAtAnswer (A : Type 0) (net : Option (List ℕ)) (named : List ℕ → Option (List ℕ))
-    (old new : Option (List ℕ)) (status : Status) : Type 0 where
-  pub plan : Subject A
-  pub found : Answer
-  pub answered : IsAnswered A net named plan found
-  pub unseen : List ℕ
-  pub takes : TakesPart old new (answer_line found) unseen
-  pub cut : 0 < length unseen
-  pub is_status : status ≡ Usage
-
--- `replay` prints these lines.
-pub record PrintsLines (A : Type 0) (net : Option (List ℕ)) (named : List ℕ → Option (List ℕ))
+-- All that `replay` does to a writer, and its status: it prints these lines; or it ends where the
+-- writer fails in the answer's line, before it reads steps.
+pub data PrintsReplay (A : Type 0) (net : Option (List ℕ)) (named : List ℕ → Option (List ℕ))
     (steps old new : Option (List ℕ)) (status : Status) : Type 0 where
-  pub lines : List ℕ
-  pub meant : Status
-  pub replayed : IsReplayedIn A net named steps lines meant
-  pub printed : IsPrinted old new lines meant status
-
--- all that `replay` does to a writer, and its status
-abbrev pub PrintsReplay : (A : Type 0) → Option (List ℕ) → (List ℕ → Option (List ℕ))
-    → Option (List ℕ) → Option (List ℕ) → Option (List ℕ) → Status → Type 0
-PrintsReplay A net named steps old new status = PrintsLines A net named steps old new status
-    ⊎ EndsAtAnswer A net named old new status
+  prints_lines : (lines : List ℕ) (meant : Status) → IsReplayedIn A net named steps lines meant
+      → IsPrinted old new lines meant status → PrintsReplay A net named steps old new status
+  ends_at_answer : (plan : Subject A) (found : Answer) (unseen : List ℕ) → IsAnswered A net named plan found
+      → TakesPart old new (answer_line found) unseen → 0 < length unseen → status ≡ Usage
+      → PrintsReplay A net named steps old new status

@@ -1,5 +1,5 @@
 -- What is printed of steps that are taken in a network.
-use Rattle.std.specs.Prelude.{◌≡◌, ◌==◌, ℕ, List, ◌++◌, codes, decimal, length, map, flat_map, cond, not, count_by, All, Bool, IsTrue, ◌↔◌, ◌⊎◌}
+use Rattle.std.specs.Prelude.{◌≡◌, ◌==◌, ℕ, List, ◌++◌, codes, decimal, length, map, flat_map, cond, not, count_by, All, Bool, IsTrue, ◌↔◌}
 use Rattle.hex.specs.Hex.{encode_lower}
 use Rattle.custody_core.specs.Custody.{EachBranchKeeps, IsKeptAs, NothingIsLost, NothingIsMadeUp}
 use Rattle.custody_steps.specs.Steps.{Steps, IsRefusedAt}
@@ -83,13 +83,13 @@ IsCodeOf refusal.NoSuch code = code ≡ codes "S1"
 IsCodeOf refusal.NotAllowed code = code ≡ codes "S2"
 IsCodeOf refusal.Memory code = ⊥
 
--- The line of a step that is refused: which one, counted from 1, and why.
-pub record IsRefusalLine (number : ℕ) (fault : StepFault) (written : List ℕ)
-    (status : Status) : Type 0 where
-  pub code : List ℕ
-  pub code_is : IsCodeOf fault code
-  pub lines : written ≡ line (codes "refused step " ++ decimal number ++ codes " " ++ code)
-  pub is_status : status ≡ No
+-- the line of a step that is refused: which one, counted from 1, and why
+abbrev pub refusal_line : ℕ → List ℕ → List ℕ
+refusal_line number code = line (codes "refused step " ++ decimal number ++ codes " " ++ code)
+
+-- the line of a text whose line of this number, counted from 1, is of no step's form
+abbrev pub bad_line : ℕ → List ℕ
+bad_line number = line (codes "fault S3 line " ++ decimal number)
 
 -- Where the answer is yes, the rules hold of the plan under which nothing is lost, with what it
 -- asks of each match.
@@ -114,28 +114,15 @@ pub record AreTaken {A : Type 0} (plan : Subject A) (found : Answer) (text writt
       → EachBranchKeeps plan.net world
   pub listed : IsWorldListing plan.duty plan.net world (length steps) written status
 
--- A step of the text is refused, and this is its line.
-pub record IsRefusal {A : Type 0} (net : Network A) (text written : List ℕ)
+-- The listing of the steps that a text says, in the network of a plan with this answer: of where
+-- they lead to, or of the step that is refused, or of the text's first line that is of no step's
+-- form.
+pub data IsReplayed {A : Type 0} (plan : Subject A) (found : Answer) (text written : List ℕ)
     (status : Status) : Type 0 where
-  pub steps : List (Step A)
-  pub read : SayAll (text_lines text) steps
-  pub number : ℕ
-  pub fault : StepFault
-  pub refused : IsRefusedAt net steps number fault
-  pub listed : IsRefusalLine number fault written status
-
--- The line of a text whose line of this number, counted from 1, is of no step's form.
-pub record IsBadLineSaid (number : ℕ) (written : List ℕ) (status : Status) : Type 0 where
-  pub lines : written ≡ line (codes "fault S3 line " ++ decimal number)
-  pub is_status : status ≡ Usage
-
--- A line of the text is of no step's form, and this is said of the first one.
-pub record IsBadText (A : Type 0) (text written : List ℕ) (status : Status) : Type 0 where
-  pub number : ℕ
-  pub refused : IsRefusedLine A text number
-  pub said : IsBadLineSaid number written status
-
--- the listing of the steps that a text says, in the network of a plan with this answer
-abbrev pub IsReplayed : {A : Type 0} → Subject A → Answer → List ℕ → List ℕ → Status → Type 0
-IsReplayed {A} plan found text written status = AreTaken plan found text written status
-    ⊎ (IsRefusal plan.net text written status ⊎ IsBadText A text written status)
+  lists_fates : AreTaken plan found text written status → IsReplayed plan found text written status
+  lists_refusal : (steps : List (Step A)) (number : ℕ) (fault : StepFault) (code : List ℕ)
+      → SayAll (text_lines text) steps → IsRefusedAt plan.net steps number fault
+      → IsCodeOf fault code → written ≡ refusal_line number code → status ≡ No
+      → IsReplayed plan found text written status
+  lists_bad_line : (number : ℕ) → IsRefusedLine A text number → written ≡ bad_line number → status ≡ Usage
+      → IsReplayed plan found text written status

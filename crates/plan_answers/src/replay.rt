@@ -1,10 +1,10 @@
 //! The listing of steps that are taken in a network.
 
-ghost use Rattle.std.specs.Prelude.{◌≡◌, ◌++◌, string_bytes, IfOk, IfSome, OnOk};
+ghost use Rattle.std.specs.Prelude.{◌≡◌, ◌++◌, ℕ, List, string_bytes, IfOk, IfSome, OnOk};
 ghost use Rattle.custody_steps.specs.WorldOf.{world_of, net_of};
 ghost use Rattle.custody_store.specs.Contents.{event_of};
 ghost use Rattle.loss_rules.specs.declared.answer.Answer.{Answer};
-ghost use Rattle.plan_answers.specs.Replays.{told_line, lost_status, summary_line, AreListed, IsBadLineSaid, IsCodeOf, IsRefusalLine, IsWorldListing, IsReplayed, IsYesEarned};
+ghost use Rattle.plan_answers.specs.Replays.{told_line, bad_line, lost_status, refusal_line, summary_line, AreListed, IsCodeOf, IsWorldListing, IsReplayed, IsYesEarned};
 
 use custody_core::{Event, Step, StepFault, StepsError, World, is_kept_as, run};
 use loss_checker::{Duty, Plan};
@@ -44,7 +44,7 @@ pub fn replay<A: Allocator + Copy>(
 
 // The line of a text with a line that is of no step's form.
 fn list_bad_line<A: Allocator + Copy>(alloc: A, line: usize) -> Result<Said<A>, AllocError>
-    ensures { IfOk result (λ said. IsBadLineSaid line said.lines.items said.status) }
+    ensures { IfOk result (λ said. (said.lines.items ≡ bad_line line) × (said.status ≡ Status.Usage)) }
 {
     let text = format!(in alloc; "fault S3 line {line}\n")?;
     let lines = Vec::from_slice(alloc, text.as_bytes())?;
@@ -71,7 +71,8 @@ fn list_refusal<A: Allocator + Copy>(
     step: usize,
     fault: StepFault,
 ) -> Result<Said<A>, AllocError>
-    ensures { IfOk result (λ said. IsRefusalLine step fault said.lines.items said.status) }
+    ensures { IfOk result (λ said. (code : List ℕ) × IsCodeOf fault code
+        × (said.lines.items ≡ refusal_line step code) × (said.status ≡ Status.No)) }
 {
     let Some(code) = refusal_code(fault) else {
         return Err(AllocError);

@@ -2,7 +2,7 @@ use Rattle.std.proofs.Common.{subst, sym, ◌∙◌, ℕ, List}
 use Rattle.program_text.specs.declared.status.Status.{Status}
 use Rattle.plan_answers.specs.Networks.{AreReplayed}
 use Rattle.program_text.specs.Output.{IsPrinted}
-use Rattle.plan_answers.proofs.NetworkSteps.{stopped_replay, whole_replay, unread_replay}
+use Rattle.plan_answers.proofs.NetworkSteps.{cut_replay, stopped_replay, whole_replay, unread_replay}
 use Rattle.plan_answers.proofs.network.run_replay.Goals as goal
 
 pub returns-in-Err-clause-printed : goal.returns-in-Err-clause-printed
@@ -35,3 +35,11 @@ returns-clause-printed g c =
     (out c.args.out.now) (out c.put_all.new.out) (out c.put_last-in-Err-replay_read.new.out)
     checked.plan checked.answer c.as_bytes.result.now c.as_bytes-in-Err-replay_read.result.now c.in-Err-replay_read.fault c.put_last-in-Err-replay_read.result
     c.in-Ok.ensures.answered line c.in_default.ensures.ok unread c.put_last-in-Err-replay_read.ensures
+
+pub returns-in-Err-put_all-clause-printed : goal.returns-in-Err-put_all-clause-printed
+returns-in-Err-put_all-clause-printed g c =
+    let out = g.W.Write.contents in
+    let checked = c.in-Ok.checked in
+    cut_replay g.row.A.Denot (g.R.CountedRead.remaining c.args.net.now) (g.O.Open.text_of c.args.files.now) (g.S.CountedRead.remaining c.args.steps.now)
+    (out c.args.out.now) (out c.put_all.new.out) checked.plan checked.answer c.as_bytes.result.now
+    c.in-Ok.ensures.answered (c.as_bytes.ensures.value ∙ c.in-Ok.ensures.line) c.in-Err-put_all.ensures.err
