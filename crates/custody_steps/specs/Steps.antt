@@ -171,24 +171,25 @@ with_appended w delivery buffer serial = with_delivery w delivery (λ d m. recor
 -- The steps.
 
 -- A step: everything that it names is there; what it asks for holds; and the world after it, which
--- is spoken of where both are so.
-pub record Rule : Type 1 where
+-- says something where both are so.
+pub record StepRule : Type 1 where
   pub names : Type 0
   pub allowed : Type 0
   pub after : World
 
--- a step of the chunk of this name: it asks for a live chunk at this stage, of which this holds
-abbrev pub of_chunk : {A : Type 0} → Network A → World → ChunkName → Stage → (Chunk → Type 0)
-    → World → Rule
-of_chunk net w name stage P after = record {
+-- a step that names a live chunk and nothing else: it asks for that stage of it and for this, and
+-- leaves this world
+abbrev pub chunk_rule : {A : Type 0} → Network A → World → ChunkName → Stage → (Chunk → Type 0)
+    → World → StepRule
+chunk_rule net w name stage P after = record {
   names = IsSome (chunk_named net w name);
   allowed = OfChunk net w name stage P;
   after = after;
 }
 
 -- what each step names, asks for and does
-abbrev pub rule_of : {A : Type 0} → Network A → World → Step A → Rule
-rule_of net w (step.Send client tag entries) = record {
+abbrev pub rule_of_step : {A : Type 0} → Network A → World → Step A → StepRule
+rule_of_step net w (step.Send client tag entries) = record {
   names = client < length net.clients;
   allowed = IsSomeAnd (slice_get net.clients client) (λ found. HaveTag found.patterns.items tag);
   after = option_map_or
@@ -203,7 +204,7 @@ rule_of net w (step.Send client tag entries) = record {
             } ∷ [];
       }) (slice_get net.clients client) w;
 }
-rule_of net w (step.Begin message) = record {
+rule_of_step net w (step.Begin message) = record {
   names = message < length w.messages;
   allowed = IsSomeAnd (slice_get w.messages message) (CanBegin net);
   after = option_map_or
@@ -219,13 +220,13 @@ rule_of net w (step.Begin message) = record {
             } ∷ [];
       }) (entrance net m.address) w) (slice_get w.messages message) w;
 }
-rule_of net w (step.Append delivery buffer serial) = record {
+rule_of_step net w (step.Append delivery buffer serial) = record {
   names = IsSomeAnd (slice_get w.deliveries delivery)
       (λ d. IsSome (output_at net d.entrance.relay buffer));
   allowed = OfDelivery w delivery (λ d m. CanAppend net w d m buffer serial);
   after = with_appended w delivery buffer serial;
 }
-rule_of net w (step.Ack delivery) = record {
+rule_of_step net w (step.Ack delivery) = record {
   names = delivery < length w.deliveries;
   allowed = OfDelivery w delivery (CanAcknowledge net);
   after = with_delivery w delivery (λ d m. record w {
@@ -234,25 +235,25 @@ rule_of net w (step.Ack delivery) = record {
     deliveries = slice_set w.deliveries delivery (ended d);
   });
 }
-rule_of net w (step.Abandon delivery) = record {
+rule_of_step net w (step.Abandon delivery) = record {
   names = delivery < length w.deliveries;
   allowed = IsSomeAnd (slice_get w.deliveries delivery) (λ d. d.is_open ≡ true);
   after = option_map_or
       (λ d. record w { deliveries = slice_set w.deliveries delivery (ended d) })
       (slice_get w.deliveries delivery) w;
 }
-rule_of net w (step.Foreign message) = record {
+rule_of_step net w (step.Foreign message) = record {
   names = message < length w.messages;
   allowed = IsSomeAnd (slice_get w.messages message) (λ m. entrance net m.address ≡ None);
   after = with_answered w message;
 }
-rule_of net w (step.Enqueue name) = of_chunk net w name Staged (λ _. Unit {0})
+rule_of_step net w (step.Enqueue name) = chunk_rule net w name Staged (λ _. Unit {0})
     (with_named net w name (λ chunk. Some (record chunk { stage = Queued })))
-rule_of net w (step.Claim name) = of_chunk net w name Queued (λ _. Unit {0})
+rule_of_step net w (step.Claim name) = chunk_rule net w name Queued (λ _. Unit {0})
     (with_named net w name (λ chunk. Some (record chunk { stage = Claimed })))
-rule_of net w (step.Back name) = of_chunk net w name Claimed (λ _. Unit {0})
+rule_of_step net w (step.Back name) = chunk_rule net w name Claimed (λ _. Unit {0})
     (with_named net w name (λ chunk. Some (record chunk { stage = Queued })))
-rule_of net w (step.Forward name server) = record {
+rule_of_step net w (step.Forward name server) = record {
   names = IsSome (chunk_named net w name)
       × IsSomeAnd (output_named net name) (λ o. server < length (servers_of o));
   allowed = OfChunk net w name Claimed (λ _. IsSomeAnd (output_named net name)
@@ -264,32 +265,32 @@ rule_of net w (step.Forward name server) = record {
             (option_and_then (λ o. slice_get (servers_of o) server) (output_named net name));
       }) (chunk_named net w name) w) (place_of net name.relay) w;
 }
-rule_of net w (step.Seen name) = of_chunk net w name Claimed
+rule_of_step net w (step.Seen name) = chunk_rule net w name Claimed
     (λ _. IsSomeAnd (output_named net name) (Forwards true)
     × IsSomeAnd (place_of net name.relay) (λ place. IsAnswered w place name.buffer name.serial))
     (with_named net w name (λ chunk. Some (record chunk { evidence = true })))
-rule_of net w (step.Write name) = of_chunk net w name Claimed
+rule_of_step net w (step.Write name) = chunk_rule net w name Claimed
     (λ _. IsSomeAnd (output_named net name) Stores)
     (with_named net (with_stored net w name (λ entries. entries)) name
     (λ chunk. Some (record chunk { evidence = true })))
-rule_of net w (step.Part name count) = of_chunk net w name Claimed
+rule_of_step net w (step.Part name count) = chunk_rule net w name Claimed
     (λ chunk. IsSomeAnd (output_named net name) Stores × (count ≤ length chunk.entries))
     (with_stored net w name (take count))
-rule_of net w (step.Purge name) = of_chunk net w name Claimed (λ chunk. chunk.evidence ≡ true)
-    (with_named net w name (λ chunk. None))
-rule_of net w (step.Done name) = of_chunk net w name Claimed
+rule_of_step net w (step.Purge name) = chunk_rule net w name Claimed
+    (λ chunk. chunk.evidence ≡ true) (with_named net w name (λ chunk. None))
+rule_of_step net w (step.Done name) = chunk_rule net w name Claimed
     (λ chunk. IsSomeAnd (output_named net name) (Forwards false) × (chunk.forwarded ≡ true))
     (with_named net w name (λ chunk. None))
-rule_of net w (step.Discard name) = of_chunk net w name Claimed
+rule_of_step net w (step.Discard name) = chunk_rule net w name Claimed
     (λ _. IsSomeAnd (output_named net name) GivesUp) (with_named net w name (λ chunk. None))
-rule_of net w (step.Oldest relay buffer) = record {
+rule_of_step net w (step.Oldest relay buffer) = record {
   names = IsSomeAnd (place_of net relay) (λ place. IsSome (output_at net place buffer));
   allowed = IsSomeAnd (place_of net relay) (λ place.
       IsSomeAnd (output_at net place buffer) DropsOldest × HasQueued (w.buffers place buffer));
   after = option_map_or (λ place. with_buffer w place buffer without_oldest) (place_of net relay)
       w;
 }
-rule_of net w (step.Restart relay) = record {
+rule_of_step net w (step.Restart relay) = record {
   names = IsSome (place_of net relay);
   allowed = Unit {0};
   after = option_map_or
@@ -302,15 +303,15 @@ rule_of net w (step.Restart relay) = record {
 
 -- Everything that the step names is there.
 abbrev pub Names : {A : Type 0} → Network A → World → Step A → Type 0
-Names net w s = (rule_of net w s).names
+Names net w s = (rule_of_step net w s).names
 
 -- What the step asks for holds.
 abbrev pub Allowed : {A : Type 0} → Network A → World → Step A → Type 0
-Allowed net w s = (rule_of net w s).allowed
+Allowed net w s = (rule_of_step net w s).allowed
 
 -- the world after the step
 abbrev pub effect : {A : Type 0} → Network A → World → Step A → World
-effect net w s = (rule_of net w s).after
+effect net w s = (rule_of_step net w s).after
 
 -- Whole runs.
 

@@ -46,7 +46,7 @@ refused_stop A net named fault (stop.Plan other) refused is = (subst (IsRefusedP
 refused_stop A net named fault (stop.Unread cause) refused is = tt
 
 -- what stops is printed in place of an answer
-stop_said : (A : Type 0) (net : Option (List ℕ)) (named : List ℕ → Option (List ℕ)) (stopped : Stop) (lines : List ℕ) → IsStopOf A net named stopped → SaysStop stopped lines
+pub stop_said : (A : Type 0) (net : Option (List ℕ)) (named : List ℕ → Option (List ℕ)) (stopped : Stop) (lines : List ℕ) → IsStopOf A net named stopped → SaysStop stopped lines
     → IsFaultLine A net named lines Usage ⊎ IsStopLine lines Usage
 stop_said A net named (stop.Plan fault) lines of (inl is) = inl (record { fault = fault; refused = of.0; named_fault = of.1; lines_are = is; is_status = refl })
 stop_said A net named (stop.Plan fault) lines of (inr is) = inr (record { lines_are = inl is; is_status = refl })

@@ -134,7 +134,7 @@ joined_status (answer.No rule place) No = No
 joined_status (answer.No rule place) Usage = Usage
 
 -- What `replay` prints of a plan and steps: behind the line of the answer what is listed of the
--- steps, or the line that says why they aren't read; or why there is no answer.
+-- steps, or the line that says why nothing is; or the line that says why there is no answer.
 pub data IsReplayedIn (A : Type 0) (net : Option (List ℕ)) (named : List ℕ → Option (List ℕ))
     (steps : Option (List ℕ)) (lines : List ℕ) (status : Status) : Type 0 where
   lists_steps : (plan : Subject A) (found : Answer) (behind : List ℕ) (after : Status)
@@ -157,12 +157,12 @@ pub record PrintsCheck (A : Type 0) (net : Option (List ℕ)) (named : List ℕ 
   pub checked : IsChecked A net named lines meant
   pub printed : IsPrinted old new lines meant status
 
--- All that `replay` does to a writer, and its status: it prints these lines; or it ends where the
--- writer fails in the answer's line, before it reads steps.
+-- All that `replay` does to a writer, and its status: it prints such lines, as far as the writer
+-- takes them; or it ends where the writer fails in the answer's line, before it reads steps.
 pub data PrintsReplay (A : Type 0) (net : Option (List ℕ)) (named : List ℕ → Option (List ℕ))
     (steps old new : Option (List ℕ)) (status : Status) : Type 0 where
   prints_lines : (lines : List ℕ) (meant : Status) → IsReplayedIn A net named steps lines meant
       → IsPrinted old new lines meant status → PrintsReplay A net named steps old new status
-  ends_at_answer : (plan : Subject A) (found : Answer) (unseen : List ℕ) → IsAnswered A net named plan found
-      → TakesPart old new (answer_line found) unseen → 0 < length unseen → status ≡ Usage
-      → PrintsReplay A net named steps old new status
+  ends_at_answer : (plan : Subject A) (found : Answer) (unseen : List ℕ)
+      → IsAnswered A net named plan found → TakesPart old new (answer_line found) unseen
+      → 0 < length unseen → status ≡ Usage → PrintsReplay A net named steps old new status

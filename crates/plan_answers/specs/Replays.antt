@@ -87,7 +87,7 @@ IsCodeOf refusal.Memory code = ⊥
 abbrev pub refusal_line : ℕ → List ℕ → List ℕ
 refusal_line number code = line (codes "refused step " ++ decimal number ++ codes " " ++ code)
 
--- the line of a text whose line of this number, counted from 1, is of no step's form
+-- the line of a text whose line of this number, counted from 1, says neither a step nor nothing
 abbrev pub bad_line : ℕ → List ℕ
 bad_line number = line (codes "fault S3 line " ++ decimal number)
 
@@ -114,9 +114,8 @@ pub record AreTaken {A : Type 0} (plan : Subject A) (found : Answer) (text writt
       → EachBranchKeeps plan.net world
   pub listed : IsWorldListing plan.duty plan.net world (length steps) written status
 
--- The listing of the steps that a text says, in the network of a plan with this answer: of where
--- they lead to, or of the step that is refused, or of the text's first line that is of no step's
--- form.
+-- What is listed of a text of steps, in the network of a plan with this answer: where the steps
+-- lead to, or the step that is refused, or the first line that says neither a step nor nothing.
 pub data IsReplayed {A : Type 0} (plan : Subject A) (found : Answer) (text written : List ℕ)
     (status : Status) : Type 0 where
   lists_fates : AreTaken plan found text written status → IsReplayed plan found text written status
@@ -124,5 +123,6 @@ pub data IsReplayed {A : Type 0} (plan : Subject A) (found : Answer) (text writt
       → SayAll (text_lines text) steps → IsRefusedAt plan.net steps number fault
       → IsCodeOf fault code → written ≡ refusal_line number code → status ≡ No
       → IsReplayed plan found text written status
-  lists_bad_line : (number : ℕ) → IsRefusedLine A text number → written ≡ bad_line number → status ≡ Usage
+  lists_bad_line : (number : ℕ) → IsRefusedLine A text number → written ≡ bad_line number
+      → status ≡ Usage
       → IsReplayed plan found text written status

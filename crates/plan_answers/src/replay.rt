@@ -44,7 +44,8 @@ pub fn replay<A: Allocator + Copy>(
 
 // The line of a text with a line that is of no step's form.
 fn list_bad_line<A: Allocator + Copy>(alloc: A, line: usize) -> Result<Said<A>, AllocError>
-    ensures { IfOk result (λ said. (said.lines.items ≡ bad_line line) × (said.status ≡ Status.Usage)) }
+    ensures { IfOk result
+        (λ said. (said.lines.items ≡ bad_line line) × (said.status ≡ Status.Usage)) }
 {
     let text = format!(in alloc; "fault S3 line {line}\n")?;
     let lines = Vec::from_slice(alloc, text.as_bytes())?;
