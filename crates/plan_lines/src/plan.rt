@@ -16,7 +16,6 @@ use std::marker::Model;
 
 /// A network of relays with its clients, the tags that may reach each scope and each match, and
 /// what is asked of matches. To contracts it is what the rules of a network speak of.
-#[derive(Drop)]
 pub struct Plan<A: Allocator> {
     net: Net<A>,
     relay_lines: Vec<RelayLine<A>, A>,
@@ -24,6 +23,20 @@ pub struct Plan<A: Allocator> {
     labels: Vec<Label<A>, A>,
     reaches: Vec<Reach<A>, A>,
     duty: Duty,
+}
+
+// By hand, as it is then proved here, once, what a plan's parts end by.
+impl<A: Allocator> Drop for Plan<A> {
+    fn drop(self) {
+        let Plan {
+            net: _,
+            relay_lines: _,
+            client_lines: _,
+            labels: _,
+            reaches: _,
+            duty: _,
+        } = self;
+    }
 }
 
 impl<A: Allocator> Model for Plan<A> {
