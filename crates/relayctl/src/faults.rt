@@ -1,7 +1,7 @@
 //! Every fault of a plan and of its configurations: behind the first one those that are left where
 //! the lines of earlier ones are blank.
 
-ghost use Rattle.std.specs.Prelude.{◌≡◌, All, IfOk, IfSome};
+ghost use Rattle.std.specs.Prelude.{◌≡◌, All, IfOk, IfSome, OnOk};
 ghost use Rattle.plan_lines.specs.Faults.{IsRefusal};
 ghost use Rattle.plan_lines.specs.Plans.{texts as texts_of};
 ghost use Rattle.relayctl.specs.Faults.{IsFaultLeft};
@@ -31,23 +31,49 @@ pub(crate) fn further_faults<A: Allocator + Copy>(
     ensures { IfOk result (λ found. All (IsFaultLeft A net.now (texts_of confs.now)) found.items) }
 {
     let conf_lines = conf_lines(alloc, net)?;
-    let mut blanks = Vec::new(alloc);
     let mut found = Vec::new(alloc);
+    let mut blanks = Vec::new(alloc);
+    add_faults(
+        alloc,
+        net,
+        confs,
+        &conf_lines,
+        first,
+        &mut blanks,
+        &mut found,
+    )?;
+    Ok(found)
+}
+
+// Adds the faults behind this one, where these lines of the plan name configurations and nothing is
+// blank yet.
+fn add_faults<A: Allocator + Copy>(
+    alloc: A,
+    net: &[u8],
+    confs: &[Vec<u8, A>],
+    conf_lines: &[usize],
+    first: PlanError,
+    blanks: &mut Vec<Blank, A>,
+    found: &mut Vec<PlanError, A>,
+) -> Result<(), AllocError>
+    requires { All (IsFaultLeft A net.now (texts_of confs.now)) found.old.items }
+    ensures { OnOk result (All (IsFaultLeft A net.now (texts_of confs.now)) found.new.items) }
+{
     let mut last = first;
     for _ in 1..MOST_FAULTS {
-        blanks.push(blank_of(alloc, confs, &conf_lines, last)?)?;
-        let Some(next) = next_fault(alloc, net, confs, &conf_lines, &blanks)? else {
-            return Ok(found);
+        blanks.push(blank_of(alloc, confs, conf_lines, last)?)?;
+        let Some(next) = next_fault(alloc, net, confs, conf_lines, blanks)? else {
+            return Ok(());
         };
         if next == last {
-            return Ok(found);
+            return Ok(());
         }
-        if is_own(alloc, net, confs, &conf_lines, &blanks, next)? {
+        if is_own(alloc, net, confs, conf_lines, blanks, next)? {
             found.push(next)?;
         }
         last = next;
     }
-    Ok(found)
+    Ok(())
 }
 
 // The first fault of the texts with these blanks; none where they are a plan.
