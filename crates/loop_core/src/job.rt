@@ -18,12 +18,23 @@ use std::sync::Arc;
 /// All that the configuration says of the output is there: where its chunks go, by how many
 /// threads, and when they are tried again. Contracts see the buffer also as it was opened, which is
 /// the very one that is shared, and in which folder.
-#[derive(Drop)]
 pub struct DeliveryJob<D: Dir + Drop, A: Allocator> {
     number: u32,
     output: BufferedOutput<A>,
     share: Share<D, A>,
     path: Option<String<A>>,
+}
+
+// By hand, so that crates above don't prove again how its parts end.
+impl<D: Dir + Drop, A: Allocator> Drop for DeliveryJob<D, A> {
+    fn drop(self) {
+        let DeliveryJob {
+            number: _,
+            output: _,
+            share: _,
+            path: _,
+        } = self;
+    }
 }
 
 impl<D: Dir + Drop, A: Allocator> Model for DeliveryJob<D, A> {
