@@ -30,7 +30,7 @@ pub struct World<'n, A: Allocator> {
     ghost ending: { HaveNoLoops net.now book.messages book.deliveries },
 }
 
-// By hand, so that it is proved here, once, how its parts end.
+// By hand, so that crates above don't prove again how its parts end.
 impl<'n, A: Allocator> Drop for World<'n, A> {
     fn drop(self) {
         let World {

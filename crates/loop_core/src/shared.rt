@@ -18,7 +18,7 @@ pub(crate) struct Share<D: Dir + Drop, A: Allocator> {
     opened: Snapshot<Buffer<D, A>>,
 }
 
-// By hand, so that crates above don't prove again how a buffer ends.
+// By hand, so that crates above don't prove again how its parts end.
 impl<D: Dir + Drop, A: Allocator> Drop for Share<D, A> {
     fn drop(self) {
         let Share {

@@ -25,7 +25,7 @@ pub struct Plan<A: Allocator> {
     duty: Duty,
 }
 
-// By hand, as it is then proved here, once, what a plan's parts end by.
+// By hand, so that crates above don't prove again how its parts end.
 impl<A: Allocator> Drop for Plan<A> {
     fn drop(self) {
         let Plan {
