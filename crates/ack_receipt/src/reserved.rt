@@ -15,7 +15,6 @@ const HEAD_LEN: usize = 5;
 /// Room for the answer to one message. Contracts see what it is for (the message's tag, how many
 /// entries it has, and the item that is to be repeated) and, once it is filled, the answer's bytes,
 /// the tag under which the message is stored, and the leaves that store it.
-#[derive(Drop)]
 pub struct Reserved<A: Allocator> {
     tag: Vec<u8, A>,
     count: usize,
@@ -23,6 +22,19 @@ pub struct Reserved<A: Allocator> {
     answer: Vec<u8, A>,
     // None while the room is empty.
     stored: Option<StoredAs<A>>,
+}
+
+// By hand, so that crates above don't prove again how its parts end.
+impl<A: Allocator> Drop for Reserved<A> {
+    fn drop(self) {
+        let Reserved {
+            tag: _,
+            count: _,
+            ack: _,
+            answer: _,
+            stored: _,
+        } = self;
+    }
 }
 
 /// Under which tag and in which buffers a message is stored.

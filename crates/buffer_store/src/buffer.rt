@@ -33,12 +33,23 @@ pub struct Appended {
 
 /// Chunks of entries that wait to be delivered: the live ones in memory, and a journal of them in a
 /// folder.
-#[derive(Drop)]
 pub struct Buffer<D: Dir, A: Allocator> {
     pub(crate) log: Log<D, A>,
     pub(crate) alloc: A,
     pub(crate) chunks: Chunks<A>,
     pub(crate) settings: Settings,
+}
+
+// By hand, so that crates above don't prove again how its parts end.
+impl<D: Dir + Drop, A: Allocator> Drop for Buffer<D, A> {
+    fn drop(self) {
+        let Buffer {
+            log: _,
+            alloc: _,
+            chunks: _,
+            settings: _,
+        } = self;
+    }
 }
 
 impl<D: Dir, A: Allocator> Model for Buffer<D, A> {

@@ -4,12 +4,20 @@ use crate::{Dir, DirError, FileName, FileNo, Writing};
 use std::alloc::{AllocError, Allocator};
 
 /// A folder of one of two kinds: what holds of the folder that it has holds of it.
-#[derive(Drop)]
 pub enum EitherDir<L, R> {
     /// A folder of the first kind.
     Left(L),
     /// A folder of the second kind.
     Right(R),
+}
+
+// By hand, so that crates above don't prove again how its parts end.
+impl<L: Drop, R: Drop> Drop for EitherDir<L, R> {
+    fn drop(self) {
+        match self {
+            EitherDir::Left(_) | EitherDir::Right(_) => {}
+        }
+    }
 }
 
 impl<L: Dir, R: Dir> Dir for EitherDir<L, R> {

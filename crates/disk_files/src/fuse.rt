@@ -17,12 +17,23 @@ enum Fails {
 /// A folder over another, whose device fails at a chosen call. Each call counts but `reserve`,
 /// `close`, `faults` and `was_removed`, which touch no device. A call that fails here isn't passed
 /// on, so it changes nothing.
-#[derive(Drop)]
 pub struct Fuse<D> {
     inner: D,
     fails: Fails,
     passes: u64,
     failed: u64,
+}
+
+// By hand, so that crates above don't prove again how its parts end.
+impl<D: Drop> Drop for Fuse<D> {
+    fn drop(self) {
+        let Fuse {
+            inner: _,
+            fails: _,
+            passes: _,
+            failed: _,
+        } = self;
+    }
 }
 
 impl<D: Dir> Fuse<D> {

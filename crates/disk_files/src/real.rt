@@ -28,7 +28,6 @@ struct OpenFile<F, A: Allocator> {
 
 /// A folder of the system. Nothing is proved of the bytes of its files: what a system call does
 /// can't be stated.
-#[derive(Drop)]
 pub struct RealDir<R: Files, A: Allocator> {
     rt: R,
     alloc: A,
@@ -38,6 +37,24 @@ pub struct RealDir<R: Files, A: Allocator> {
     held: Vec<u8, A>,
     holder: usize,
     faults: u64,
+}
+
+// By hand, so that crates above don't prove again how its parts end.
+impl<R: Files + Drop, A: Allocator> Drop for RealDir<R, A>
+where
+    R::File: Drop,
+{
+    fn drop(self) {
+        let RealDir {
+            rt: _,
+            alloc: _,
+            path: _,
+            files: _,
+            held: _,
+            holder: _,
+            faults: _,
+        } = self;
+    }
 }
 
 impl<R, A> RealDir<R, A>

@@ -33,7 +33,6 @@ pub(crate) enum Files<D: Dir, A: Allocator> {
 /// Opened over an honest folder, it keeps each answer that it gave in any of its files: at each
 /// later moment a stop leaves its entries. This is part of the type, so it stands too where the
 /// sink lies behind a lock.
-#[derive(Drop)]
 pub struct Rotation<D: Dir, A: Allocator> {
     alloc: A,
     path: Vec<u8, A>,
@@ -44,6 +43,23 @@ pub struct Rotation<D: Dir, A: Allocator> {
     size: u64,
     since: u64,
     retry: Option<u64>,
+}
+
+// By hand, so that crates above don't prove again how its parts end.
+impl<D: Dir + Drop, A: Allocator> Drop for Rotation<D, A> {
+    fn drop(self) {
+        let Rotation {
+            alloc: _,
+            path: _,
+            limits: _,
+            files: _,
+            closed: _,
+            opening: _,
+            size: _,
+            since: _,
+            retry: _,
+        } = self;
+    }
 }
 
 impl<D: Dir, A: Allocator> Model for Rotation<D, A> {

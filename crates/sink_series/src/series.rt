@@ -31,7 +31,6 @@ use std::snapshot::Snapshot;
 /// Opened over an honest folder, it keeps each of its answers: at each later moment a stop leaves
 /// them, whatever was called since, also after a failure. This is part of the type, so it stands
 /// too where the sink lies behind a lock.
-#[derive(Drop)]
 pub struct Series<D: Dir, A: Allocator> {
     alloc: A,
     dir: D,
@@ -42,6 +41,23 @@ pub struct Series<D: Dir, A: Allocator> {
     answers: Answers<D, A>,
     opening: Snapshot<D>,
     has_failed: bool,
+}
+
+// By hand, so that crates above don't prove again how its parts end.
+impl<D: Dir + Drop, A: Allocator> Drop for Series<D, A> {
+    fn drop(self) {
+        let Series {
+            alloc: _,
+            dir: _,
+            path: _,
+            number: _,
+            file: _,
+            begun: _,
+            answers: _,
+            opening: _,
+            has_failed: _,
+        } = self;
+    }
 }
 
 impl<D: Dir, A: Allocator> Model for Series<D, A> {

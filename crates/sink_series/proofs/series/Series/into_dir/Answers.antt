@@ -1,4 +1,4 @@
-use Rattle.std.proofs.Common.{refl, subst, ◌∙◌}
+use Rattle.std.proofs.Common.{IsSome, refl, subst, sym, ◌∙◌}
 use Rattle.sink_series.specs.Keeping.{Keeps}
 use Rattle.sink_series.specs.Views.{SeriesView}
 use Rattle.sink_series.proofs.Kept.{passes_rest, begins_rest, keeps_on}
@@ -14,3 +14,6 @@ returns-clause-kept g c =
     keeps_on g.D.Dir.is_honest g.D.Dir.history _ _ k (a.honest h) (passes_rest _ _ (a.time h) (a.same h)) refl refl refl
     (λ ready. let w = k.honest.written ready in (w.0, a.same h _ ∙ w.1)) k.begun
     (begins_rest _ _ _ _ _ k.begins (a.time h) (a.same h)))
+
+pub close-requires : goal.close-requires
+close-requires g c = subst IsSome (sym c.self.invariant.sound.named) refl
