@@ -17,7 +17,6 @@ use plan_lines::{Plan, PlanError};
 use std::alloc::{AllocError, Allocator};
 
 /// A plan with the labels and reaches that it lacked, and which of its rules are broken.
-#[derive(Drop)]
 pub struct LabelledCheck<A: Allocator> {
     /// The plan's text: the given one with the lines that were added behind it, or the given one
     /// itself where none were found.
@@ -28,6 +27,18 @@ pub struct LabelledCheck<A: Allocator> {
     pub is_labelled: bool,
     /// The rules of the plan that are broken, in their order, each with every place where it is.
     pub broken: Vec<BrokenRule<A>, A>,
+}
+
+// By hand, so that crates above don't prove again how its parts end.
+impl<A: Allocator> Drop for LabelledCheck<A> {
+    fn drop(self) {
+        let LabelledCheck {
+            text: _,
+            plan: _,
+            is_labelled: _,
+            broken: _,
+        } = self;
+    }
 }
 
 /// Labels the plan of these texts as `labelled_text` does, and says which of its rules are broken

@@ -102,10 +102,19 @@ impl<'a, A: Allocator + Copy> PatternsBySite<'a, A> {
 }
 
 /// Labels that are looked up by the scope that they are of. To contracts it is their list.
-#[derive(Drop)]
 pub struct Labels<'a, A: Allocator> {
     list: &'a [Label<A>],
     by_scope: PatternsBySite<'a, A>,
+}
+
+// By hand, so that crates above don't prove again how its parts end.
+impl<'a, A: Allocator> Drop for Labels<'a, A> {
+    fn drop(self) {
+        let Labels {
+            list: _,
+            by_scope: _,
+        } = self;
+    }
 }
 
 impl<'a, A: Allocator> Model for Labels<'a, A> {
@@ -159,10 +168,19 @@ impl<'a, A: Allocator + Copy> Labels<'a, A> {
 }
 
 /// Reaches that are looked up by the match that they are of. To contracts it is their list.
-#[derive(Drop)]
 pub struct Reaches<'a, A: Allocator> {
     list: &'a [Reach<A>],
     by_match: PatternsBySite<'a, A>,
+}
+
+// By hand, so that crates above don't prove again how its parts end.
+impl<'a, A: Allocator> Drop for Reaches<'a, A> {
+    fn drop(self) {
+        let Reaches {
+            list: _,
+            by_match: _,
+        } = self;
+    }
 }
 
 impl<'a, A: Allocator> Model for Reaches<'a, A> {

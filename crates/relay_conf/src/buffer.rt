@@ -85,7 +85,6 @@ pub(crate) static BUFFER_ROWS: [Row; 16] = [
 ];
 
 /// The settings of one buffer.
-#[derive(Drop)]
 pub struct BufferSettings<A: Allocator> {
     /// Where its chunks are.
     pub kind: BufferKind<A>,
@@ -103,6 +102,22 @@ pub struct BufferSettings<A: Allocator> {
     pub chunk_limit_size: u64,
     /// How many bytes of entries all chunks together may have.
     pub total_limit_size: u64,
+}
+
+// By hand, so that crates above don't prove again how its parts end.
+impl<A: Allocator> Drop for BufferSettings<A> {
+    fn drop(self) {
+        let BufferSettings {
+            kind: _,
+            flush_mode: _,
+            flush_interval: _,
+            flush_thread_count: _,
+            retry: _,
+            overflow_action: _,
+            chunk_limit_size: _,
+            total_limit_size: _,
+        } = self;
+    }
 }
 
 /// Where the chunks of a buffer are.

@@ -34,7 +34,6 @@ pub enum Output<A: Allocator> {
 }
 
 /// How an output sends to further relays (Fluentd, out_forward).
-#[derive(Drop)]
 pub struct ForwardSettings<A: Allocator> {
     /// The relays to send to, in the order of the text.
     pub servers: Vec<Server<A>, A>,
@@ -50,8 +49,21 @@ pub struct ForwardSettings<A: Allocator> {
     pub number: BufferNo,
 }
 
+// By hand, so that crates above don't prove again how its parts end.
+impl<A: Allocator> Drop for ForwardSettings<A> {
+    fn drop(self) {
+        let ForwardSettings {
+            servers: _,
+            require_ack_response: _,
+            ack_response_timeout: _,
+            security: _,
+            buffer: _,
+            number: _,
+        } = self;
+    }
+}
+
 /// How an output stores into a sink.
-#[derive(Drop)]
 pub struct FileSettings<A: Allocator> {
     /// The sink's name: 1 to 64 letters, digits, `_`, `-` or `.`, not `.` first.
     pub path: String<A>,
@@ -59,6 +71,17 @@ pub struct FileSettings<A: Allocator> {
     pub buffer: BufferSettings<A>,
     /// The buffer's place in the relay.
     pub number: BufferNo,
+}
+
+// By hand, so that crates above don't prove again how its parts end.
+impl<A: Allocator> Drop for FileSettings<A> {
+    fn drop(self) {
+        let FileSettings {
+            path: _,
+            buffer: _,
+            number: _,
+        } = self;
+    }
 }
 
 /// A further relay.

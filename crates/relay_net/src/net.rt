@@ -25,13 +25,25 @@ use tag_pattern::{Prefix, Tag};
 /// Beside them it keeps, for each relay, its routes and where its outputs stand, and the first
 /// relay with a source of each address, so that no step of the network looks through a
 /// configuration for an output or a way, or through the relays for an address.
-#[derive(Drop)]
 pub struct Net<A: Allocator> {
     alloc: A,
     relays: Vec<Node<A>, A>,
     clients: Vec<Client<A>, A>,
     lookups: Vec<Lookup<A>, A>,
     sources: SourceIndex<A>,
+}
+
+// By hand, so that crates above don't prove again how its parts end.
+impl<A: Allocator> Drop for Net<A> {
+    fn drop(self) {
+        let Net {
+            alloc: _,
+            relays: _,
+            clients: _,
+            lookups: _,
+            sources: _,
+        } = self;
+    }
 }
 
 impl<A: Allocator> Model for Net<A> {
