@@ -24,12 +24,22 @@ const LOOKS: u8 = 2;
 /// that left its buffer otherwise is forgotten too: each failure looks at the two known chunks that
 /// were looked at longest ago, so what is kept is bounded by the chunks that the buffer has.
 /// Contracts see the settings.
-#[derive(Drop)]
 pub struct Retries<A: Allocator> {
     settings: RetrySettings,
     known: Mutex<Known<A>>,
     // Tells of the chunks of the buffer.
     teller: Teller<A>,
+}
+
+// By hand, so that crates above don't prove again how its parts end.
+impl<A: Allocator> Drop for Retries<A> {
+    fn drop(self) {
+        let Retries {
+            settings: _,
+            known: _,
+            teller: _,
+        } = self;
+    }
 }
 
 impl<A: Allocator> Model for Retries<A> {
@@ -54,10 +64,11 @@ impl<A: Allocator + Copy> Retries<A> {
 
     /// Workers tell by this teller, of which the first place is the buffer, of chunks that are
     /// given up.
-    pub fn telling(self, teller: Teller<A>) -> Self
+    pub fn telling(mut self, teller: Teller<A>) -> Self
         ensures { result ≡ self }
     {
-        Retries { teller, ..self }
+        self.teller = teller;
+        self
     }
 
     /// A chunk was let go, since its retries are over: it is told.

@@ -20,7 +20,6 @@ use std::marker::Model;
 use std::random::RandomSource;
 
 /// A relay that listens at each of its sources. Its buffers aren't open.
-#[derive(Drop)]
 pub struct BoundRelay<N: Network + Drop, A: Allocator> {
     alloc: A,
     network: N,
@@ -28,6 +27,20 @@ pub struct BoundRelay<N: Network + Drop, A: Allocator> {
     number: u32,
     outputs: Vec<BufferedOutput<A>, A>,
     nonces: Nonces,
+}
+
+// By hand, so that crates above don't prove again how its parts end.
+impl<N: Network + Drop, A: Allocator> Drop for BoundRelay<N, A> {
+    fn drop(self) {
+        let BoundRelay {
+            alloc: _,
+            network: _,
+            listeners: _,
+            number: _,
+            outputs: _,
+            nonces: _,
+        } = self;
+    }
 }
 
 impl<N: Network + Drop, A: Allocator> Model for BoundRelay<N, A> {

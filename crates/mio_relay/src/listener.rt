@@ -19,13 +19,28 @@ use std::sync::Arc;
 
 /// A source of the configuration: the socket that listens there, where its messages go, and what
 /// its clients have to prove. Contracts see the socket's number, and the source.
-#[derive(Drop)]
 pub struct Listener<N: Network, A: Allocator> {
     socket: N::Listener,
     bind: String<A>,
     port: u16,
     inlet: Arc<Inlet<A>, A>,
     secret: Option<Secret<A>>,
+}
+
+// By hand, so that crates above don't prove again how its parts end.
+impl<N: Network, A: Allocator> Drop for Listener<N, A>
+where
+    N::Listener: Drop,
+{
+    fn drop(self) {
+        let Listener {
+            socket: _,
+            bind: _,
+            port: _,
+            inlet: _,
+            secret: _,
+        } = self;
+    }
 }
 
 impl<N: Network, A: Allocator> Model for Listener<N, A> {

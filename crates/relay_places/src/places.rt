@@ -45,12 +45,21 @@ pub struct Carriers {
 /// its sources, the chunks of each of its outputs that has a buffer, the journals of these buffers,
 /// and the servers or the sink of each of these outputs, all in the order of the text. Contracts
 /// see how many sources there are, and the places of each output's servers or sink.
-#[derive(Drop)]
 pub struct Places<A: Allocator> {
     // How many there are.
     sources: usize,
     // Of each output that has a buffer.
     carriers: Vec<Carriers, A>,
+}
+
+// By hand, so that crates above don't prove again how its parts end.
+impl<A: Allocator> Drop for Places<A> {
+    fn drop(self) {
+        let Places {
+            sources: _,
+            carriers: _,
+        } = self;
+    }
 }
 
 impl<A: Allocator> Model for Places<A> {

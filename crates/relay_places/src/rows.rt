@@ -16,9 +16,15 @@ use std::marker::Model;
 
 /// What is said of the outputs of a relay that have buffers. Contracts see a row for each, in the
 /// order of the text: what is said of it, and the places of its servers or its sink.
-#[derive(Drop)]
 pub struct OutputRows<A: Allocator> {
     rows: Vec<Row<A>, A>,
+}
+
+// By hand, so that crates above don't prove again how its parts end.
+impl<A: Allocator> Drop for OutputRows<A> {
+    fn drop(self) {
+        let OutputRows { rows: _ } = self;
+    }
 }
 
 impl<A: Allocator> Model for OutputRows<A> {

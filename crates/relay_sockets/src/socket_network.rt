@@ -27,7 +27,6 @@ const FIRST_LISTENER: usize = 1 << 32;
 
 /// Listening sockets of the system, and what it reports. It notes the endpoint that each was bound
 /// at.
-#[derive(Drop)]
 pub struct SocketNetwork<R, A: Allocator> {
     rt: R,
     alloc: A,
@@ -36,15 +35,36 @@ pub struct SocketNetwork<R, A: Allocator> {
     bound: Vec<Endpoint<A>, A>,
 }
 
+// By hand, so that crates above don't prove again how its parts end.
+impl<R: Drop, A: Allocator> Drop for SocketNetwork<R, A> {
+    fn drop(self) {
+        let SocketNetwork {
+            rt: _,
+            alloc: _,
+            poll: _,
+            events: _,
+            bound: _,
+        } = self;
+    }
+}
+
 /// A listening socket, and its number.
-#[derive(Drop)]
 pub struct SocketListener {
     socket: TcpListener,
     number: usize,
 }
 
+// By hand, so that crates above don't prove again how its parts end.
+impl Drop for SocketListener {
+    fn drop(self) {
+        let SocketListener {
+            socket: _,
+            number: _,
+        } = self;
+    }
+}
+
 /// A connection that came in, the number of its listener, and what it answered last.
-#[derive(Drop)]
 pub struct SocketWire {
     stream: TcpStream,
     listener: usize,
@@ -52,6 +72,18 @@ pub struct SocketWire {
     is_full: bool,
     // It was read until its other end had ended its sending.
     has_ended: bool,
+}
+
+// By hand, so that crates above don't prove again how its parts end.
+impl Drop for SocketWire {
+    fn drop(self) {
+        let SocketWire {
+            stream: _,
+            listener: _,
+            is_full: _,
+            has_ended: _,
+        } = self;
+    }
 }
 
 impl<R: Net + Clock + Drop, A: Allocator + Copy> SocketNetwork<R, A> {

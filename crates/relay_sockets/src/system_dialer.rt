@@ -24,22 +24,38 @@ const LONGEST_CONNECT: u64 = 10_000;
 const NOWHERE_LEN: u32 = 16;
 
 /// Connects by the system.
-#[derive(Drop)]
 pub struct SystemDialer<R, A: Allocator> {
     rt: R,
     alloc: A,
+}
+
+// By hand, so that crates above don't prove again how its parts end.
+impl<R: Drop, A: Allocator> Drop for SystemDialer<R, A> {
+    fn drop(self) {
+        let SystemDialer { rt: _, alloc: _ } = self;
+    }
 }
 
 /// A connection that went out, and the endpoint that was asked for.
 ///
 /// A read says nothing of what the stream took, and a write nothing of what it has to give; so
 /// nothing of it is known over both.
-#[derive(Drop)]
 pub struct SystemWire<S, A: Allocator> {
     stream: S,
     asked: Endpoint<A>,
     // It took no byte for now when it was last written to.
     is_full: bool,
+}
+
+// By hand, so that crates above don't prove again how its parts end.
+impl<S: Drop, A: Allocator> Drop for SystemWire<S, A> {
+    fn drop(self) {
+        let SystemWire {
+            stream: _,
+            asked: _,
+            is_full: _,
+        } = self;
+    }
 }
 
 impl<R: Net + Clock, A: Allocator + Copy> SystemDialer<R, A> {

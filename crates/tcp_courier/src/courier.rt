@@ -40,7 +40,6 @@ pub struct Turn {
 /// on, round, with one connection for each chunk. All threads that carry share the turn. Contracts
 /// see what it connects by, its servers in listed order, the name and key that it shows in
 /// handshakes, whether it asks for acknowledgements, and how long it waits.
-#[derive(Drop)]
 pub struct TcpCourier<N, A: Allocator> {
     alloc: A,
     dialer: Arc<N, A>,
@@ -54,6 +53,24 @@ pub struct TcpCourier<N, A: Allocator> {
     turn: Mutex<Turn>,
     // Tells of its servers, in their order.
     teller: Teller<A>,
+}
+
+// By hand, so that crates above don't prove again how its parts end.
+impl<N: Drop, A: Allocator> Drop for TcpCourier<N, A> {
+    fn drop(self) {
+        let TcpCourier {
+            alloc: _,
+            dialer: _,
+            servers: _,
+            secret: _,
+            asks: _,
+            timeout: _,
+            stop: _,
+            nonces: _,
+            turn: _,
+            teller: _,
+        } = self;
+    }
 }
 
 impl<N, A: Allocator> Model for TcpCourier<N, A> {
@@ -116,10 +133,11 @@ impl<N: Dialer + Drop, A: Allocator + Copy> TcpCourier<N, A> {
 
     /// It tells of its servers from now on, by this teller, of which the first place is the first
     /// server: which fails and why, and which works again.
-    pub fn telling(self, teller: Teller<A>) -> TcpCourier<N, A>
+    pub fn telling(mut self, teller: Teller<A>) -> TcpCourier<N, A>
         ensures { result ≡ self }
     {
-        TcpCourier { teller, ..self }
+        self.teller = teller;
+        self
     }
 
     // A session of a connection that was made.
