@@ -22,10 +22,12 @@ impl<'a> WatchedFolder<'a> {
     }
 
     // Whether the relay tells of its outputs. Where that can't be looked at, reading will say why.
-    fn has_state(&self) -> bool {
-        match format!(in self.rt.alloc(); "{}/{STATE_FILE}", self.path) {
-            Ok(path) => fs::exists(self.rt, path.as_str()).unwrap_or(true),
-            Err(_) => true,
+    // The error is want of memory.
+    fn has_state(&self) -> io::Result<bool> {
+        let path = format!(in self.rt.alloc(); "{}/{STATE_FILE}", self.path)?;
+        match fs::exists(self.rt, path.as_str()) {
+            Err(fault) if fault.kind() == ErrorKind::OutOfMemory => Err(fault),
+            found => Ok(found.unwrap_or(true)),
         }
     }
 }
@@ -38,7 +40,7 @@ impl<'a> Open for WatchedFolder<'a> {
     type Reader = NamedFile<'a>;
 
     fn open(&self, name: &str) -> io::Result<NamedFile<'a>> {
-        if name == STATE_FILE && !self.has_state() {
+        if name == STATE_FILE && !self.has_state()? {
             return Err(io::Error::from(ErrorKind::NotFound));
         }
         self.folder.open(name)
