@@ -1,6 +1,6 @@
 //! The word `show`: what the journals and sinks in a relay's data folder hold. Nothing is written.
-//! For all words that look into such a folder, files are read in pieces, and at the places of a
-//! journal's entries.
+//! For the other words that look into such a folder, files are read in pieces, and at the places of
+//! a journal's entries.
 #![tactic(auto)]
 
 mod feeding;
