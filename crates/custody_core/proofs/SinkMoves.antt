@@ -7,12 +7,10 @@ use Rattle.std.specs.Option.{option_and_then, option_map_or}
 use Rattle.custody_store.specs.declared.chunk.Stage.{Stage}
 use Rattle.custody_store.specs.declared.chunk.Stage.TheVariants.{Staged, Queued, Claimed}
 use Rattle.custody_store.specs.Buffers.{Event, Chunk, BufferState, is_queued, none_queued_below, without_oldest, restarted, unclaimed, started_again}
-use Rattle.relay_conf.specs.declared.buffer.BufferKind.{BufferKind}
-use Rattle.relay_conf.specs.declared.buffer.BufferKind.TheVariants as kind
 use Rattle.relay_conf.specs.declared.output.Output.{Output}
 use Rattle.relay_conf.specs.declared.output.Output.TheVariants as output
 use Rattle.relay_net.specs.Network.{Network, output_at, is_in_memory}
-use Rattle.relay_net.specs.Outputs.{Keeps, IsInFile, is_memory, settings_of}
+use Rattle.relay_net.specs.Outputs.{Keeps, is_memory, settings_of}
 use Rattle.custody_steps.specs.World.{World, with_buffer}
 use Rattle.custody_core.proofs.Borne.{Origin}
 use Rattle.custody_core.proofs.Safe.{Buffers, Ranking, KeepsAt, IsSafe, changed, safe_here}
@@ -80,16 +78,12 @@ oldest_ranked net labelled ranks clock w is place buffer lets_go =
 -- Restarts.
 
 -- a buffer that keeps is in no memory
-file_kind : {A : Type 0} (kind : BufferKind A) → IsInFile kind → is_memory kind ≡ false
-file_kind kind.Memory h = absurd h
-file_kind (kind.File path) h = refl
-
 keeps_in_file : {A : Type 0} (o : Option (Output A)) → IsSomeAnd o Keeps → option_map_or (λ settings. is_memory settings.kind) (option_and_then settings_of o) false ≡ false
 keeps_in_file None h = absurd h
 keeps_in_file (Some (output.Null line)) h = absurd h
 keeps_in_file (Some (output.Relabel target line)) h = absurd h
-keeps_in_file (Some (output.Forward settings line)) h = file_kind settings.buffer.kind h.0.in_file
-keeps_in_file (Some (output.File settings line)) h = file_kind settings.buffer.kind h.in_file
+keeps_in_file (Some (output.Forward settings line)) h = h.0.in_file
+keeps_in_file (Some (output.File settings line)) h = h.in_file
 
 pub in_file : {A : Type 0} (net : Network A) (place buffer : ℕ) → KeepsAt net place buffer → is_in_memory net place buffer ≡ false
 in_file net place buffer keeps = keeps_in_file (output_at net place buffer) keeps

@@ -14,10 +14,9 @@ use Rattle.std.proofs.lemmas.Map.Text.{is_eq-slice_cmp}
 use Rattle.std.proofs.lemmas.Slice.Eq.{bytes_eq-Decides}
 use Rattle.relay_conf.specs.declared.relay.Source.{Source}
 use Rattle.relay_net.specs.Addresses.{Address}
-use Rattle.relay_net.specs.Network.{source_of_port, source_at, entrance_or, entrance_from, prefix_or, prefix_from}
+use Rattle.relay_net.specs.Network.{source_of_port, first_source}
 use Rattle.relay_net.proofs.Passing.{or_none}
-use Rattle.relay_net.specs.Sources.{place_at, among_nodes, has_source, first_source}
-use Rattle.relay_net.specs.declared.address.Entrance.{Entrance}
+use Rattle.relay_net.specs.Sources.{place_at, among_nodes, has_source}
 use Rattle.relay_net.specs.declared.node.Node.{Node}
 
 -- how keys are compared, and a host with one
@@ -114,30 +113,6 @@ found_source {A} f place (node ∷ nodes) address at =
     by true (Some s) is more = rw (here, is) refl
     by true None is more = more
     by false o is more = more
-
--- where the first source is entered, and what it puts in front
-pub entered_first : {A : Type 0} (place : ℕ) (nodes : List (Node A)) (address : Address)
-    → entrance_from place nodes address ≡ option_map (λ (found : ℕ × Source A). record { relay = found.0; scope = found.1.label.0 }) (first_source place nodes address)
-entered_first place [] address = refl
-entered_first {A} place (node ∷ nodes) address = by (source_at node address) (entered_first (suc place) nodes address)
-  where
-    enter : ℕ × Source A → Entrance
-    enter found = record { relay = found.0; scope = found.1.label.0 }
-
-    by : (o : Option (Source A)) → entrance_from (suc place) nodes address ≡ option_map enter (first_source (suc place) nodes address)
-        → entrance_or o place (entrance_from (suc place) nodes address) ≡ option_map enter (option_or (option_map (λ source. (place, source)) o) (first_source (suc place) nodes address))
-    by None more = more
-    by (Some s) more = refl
-
-pub prefixed_first : {A : Type 0} (place : ℕ) (nodes : List (Node A)) (address : Address)
-    → prefix_from nodes address ≡ option_and_then (λ (found : ℕ × Source A). found.1.prefix) (first_source place nodes address)
-prefixed_first place [] address = refl
-prefixed_first {A} place (node ∷ nodes) address = by (source_at node address) (prefixed_first (suc place) nodes address)
-  where
-    by : (o : Option (Source A)) → prefix_from nodes address ≡ option_and_then (λ (found : ℕ × Source A). found.1.prefix) (first_source (suc place) nodes address)
-        → prefix_or o (prefix_from nodes address) ≡ option_and_then (λ (found : ℕ × Source A). found.1.prefix) (option_or (option_map (λ source. (place, source)) o) (first_source (suc place) nodes address))
-    by None more = more
-    by (Some s) more = refl
 
 module _ {A : Type 0} (nodes : List (Node A)) (address : Address) where
   -- what stands at a place of them

@@ -1,7 +1,7 @@
 -- The network: where an address leads, and what outputs a relay has.
-use Rattle.std.specs.Prelude.{◌==◌, ℕ, suc, Bool, false, cond, List, [], ◌∷◌, Option, Some, None, option_map, slice_get, find, position, is_some, string_bytes}
+use Rattle.std.specs.Prelude.{◌==◌, ℕ, suc, Bool, false, cond, List, [], ◌∷◌, Option, None, option_map, slice_get, find, position, is_some, string_bytes}
 use Rattle.std.specs.List.{flat_map, list_all}
-use Rattle.std.specs.Option.{option_and_then, option_map_or}
+use Rattle.std.specs.Option.{option_and_then, option_map_or, option_or}
 use Rattle.std.specs.Str.{bytes_eq}
 use Rattle.relay_conf.specs.declared.relay.Relay.{Relay}
 use Rattle.relay_conf.specs.declared.relay.Source.{Source}
@@ -50,51 +50,39 @@ abbrev pub source_at : {A : Type 0} → Node A → Address → Option (Source A)
 source_at node address = cond (bytes_eq (string_bytes node.host) address.host)
     (source_of_port node.relay address.port) None
 
--- the entrance of the relay at this place, if it has that source, else the other one
-abbrev pub entrance_or : {A : Type 0} → Option (Source A) → ℕ → Option Entrance → Option Entrance
-entrance_or None place other = other
-entrance_or (Some source) place other = Some (record { relay = place; scope = source.label.0 })
-
--- the entrance at an address, where this is the place of the first of these relays
-abbrev pub entrance_from : {A : Type 0} → ℕ → List (Node A) → Address → Option Entrance
-entrance_from place [] address = None
-entrance_from place (node ∷ nodes) address =
-    entrance_or (source_at node address) place (entrance_from (suc place) nodes address)
+-- the first of these relays' sources with this address, behind the place of its relay, where this is
+-- the place of the first of them
+abbrev pub first_source : {A : Type 0} → ℕ → List (Node A) → Address → Option (ℕ × Source A)
+first_source place [] address = None
+first_source place (node ∷ nodes) address =
+    option_or (option_map (λ source. (place, source)) (source_at node address))
+    (first_source (suc place) nodes address)
 
 -- where a message to this address comes in: the first source of the plan that has it
 abbrev pub entrance : {A : Type 0} → Network A → Address → Option Entrance
-entrance net address = entrance_from 0 net.relays address
-
--- the prefix of that source, if it is there, else the other one
-abbrev pub prefix_or : {A : Type 0} → Option (Source A) → Option (List ℕ) → Option (List ℕ)
-prefix_or None other = other
-prefix_or (Some source) other = source.prefix
-
--- the prefix at an address of these relays
-abbrev pub prefix_from : {A : Type 0} → List (Node A) → Address → Option (List ℕ)
-prefix_from [] address = None
-prefix_from (node ∷ nodes) address = prefix_or (source_at node address) (prefix_from nodes address)
+entrance net address =
+    option_map (λ found. record { relay = found.0; scope = found.1.label.0 })
+    (first_source 0 net.relays address)
 
 -- what is put in front of the tags of messages to this address: the prefix of the first source of
 -- the plan that has it
 abbrev pub prefix_at : {A : Type 0} → Network A → Address → Option (List ℕ)
-prefix_at net address = prefix_from net.relays address
+prefix_at net address =
+    option_and_then (λ found. found.1.prefix) (first_source 0 net.relays address)
 
 -- the tag that the events of a message with this tag bear where it comes in, if it is sent to this
 -- address
 abbrev pub tag_at : {A : Type 0} → Network A → Address → List ℕ → List ℕ
 tag_at net address tag = entered_tag (prefix_at net address) tag
 
--- the host of the relay that this number means (empty where it means none)
-abbrev pub host_from : {A : Type 0} → List (Node A) → ℕ → List ℕ
-host_from [] number = []
-host_from (node ∷ nodes) number = cond (node.number == number) (string_bytes node.host)
-    (host_from nodes number)
-
--- the address that a client sends to
+-- the address that a client sends to: the host of the relay that its number means (empty where it
+-- means none), and its port
 abbrev pub address_of_client : {A : Type 0} → Network A → Client A → Address
 address_of_client net client =
-    record { host = host_from net.relays client.relay; port = client.port }
+    record {
+      host = option_map_or (λ node. string_bytes node.host) (node_of net.relays client.relay) [];
+      port = client.port;
+    }
 
 -- the address of a server
 abbrev pub address_of_server : {A : Type 0} → Server A → Address

@@ -17,17 +17,14 @@ is_numbered (Some number) buffer = number == buffer
 
 -- the settings of an output's buffer
 abbrev pub settings_of : {A : Type 0} → Output A → Option (BufferSettings A)
-settings_of (output.Null line) = None
-settings_of (output.Relabel target line) = None
 settings_of (output.Forward settings line) = Some settings.buffer
 settings_of (output.File settings line) = Some settings.buffer
+settings_of _ = None
 
 -- the servers that an output sends to
 abbrev pub servers_of : {A : Type 0} → Output A → List (Server A)
-servers_of (output.Null line) = []
-servers_of (output.Relabel target line) = []
 servers_of (output.Forward settings line) = settings.servers.items
-servers_of (output.File settings line) = []
+servers_of _ = []
 
 -- the chunks are in memory
 abbrev pub is_memory : {A : Type 0} → BufferKind A → Bool
@@ -38,24 +35,19 @@ is_memory (kind.File path) = false
 abbrev pub has_memory : {A : Type 0} → Output A → Bool
 has_memory o = option_map_or (λ settings. is_memory settings.kind) (settings_of o) false
 
--- the chunks outlive a restart
-abbrev pub IsInFile : {A : Type 0} → BufferKind A → Type 0
-IsInFile kind.Memory = ⊥
-IsInFile (kind.File path) = Unit {0}
-
--- A buffer that lets no chunk go before it is delivered.
+-- A buffer that lets no chunk go before it is delivered: its chunks outlive a restart, it tries for
+-- ever, and it refuses what comes when it is full.
 pub record KeepsChunks {A : Type 0} (settings : BufferSettings A) : Type 0 where
-  pub in_file : IsInFile settings.kind
+  pub in_file : is_memory settings.kind ≡ false
   pub for_ever : settings.retry.forever ≡ true
   pub refuses : settings.overflow_action ≡ ThrowException
 
 -- An output that lets go of nothing before it is delivered.
 abbrev pub Keeps : {A : Type 0} → Output A → Type 0
-Keeps (output.Null line) = ⊥
-Keeps (output.Relabel target line) = ⊥
 Keeps (output.Forward settings line) = KeepsChunks settings.buffer
     × (settings.require_ack_response ≡ true)
 Keeps (output.File settings line) = KeepsChunks settings.buffer
+Keeps _ = ⊥
 
 -- a full buffer refuses what comes
 abbrev pub is_refusing : OverflowAction → Bool

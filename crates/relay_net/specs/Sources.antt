@@ -1,11 +1,10 @@
 -- Which relay is the first with a source of an address.
-use Rattle.std.specs.Prelude.{◌≡◌, ℕ, suc, Bool, cond, List, [], ◌∷◌, Option, Some, None, is_some, option_map}
+use Rattle.std.specs.Prelude.{◌≡◌, ℕ, suc, Bool, cond, List, [], ◌∷◌, Option, Some, None, is_some}
 use Rattle.std.specs.Prelude.{Vec}
-use Rattle.std.specs.Option.{option_and_then, option_or}
+use Rattle.std.specs.Option.{option_and_then}
 use Rattle.std.specs.Ordering.{nat_cmp}
 use Rattle.std.specs.Cmp.Lexicographic.{slice_cmp}
 use Rattle.std.specs.BTreeMap.{BTreeMap, get, get_by}
-use Rattle.relay_conf.specs.declared.relay.Source.{Source}
 use Rattle.relay_net.specs.Addresses.{Address}
 use Rattle.relay_net.specs.Network.{source_at}
 use Rattle.relay_net.specs.declared.node.Node.{Node}
@@ -30,13 +29,6 @@ abbrev pub among_nodes : {A : Type 0} → ℕ → List (Node A) → Address → 
 among_nodes place [] address = None
 among_nodes place (node ∷ nodes) address = cond (has_source node address) (Some place)
     (among_nodes (suc place) nodes address)
-
--- the first of these relays' sources with this address, behind the place of its relay
-abbrev pub first_source : {A : Type 0} → ℕ → List (Node A) → Address → Option (ℕ × Source A)
-first_source place [] address = None
-first_source place (node ∷ nodes) address =
-    option_or (option_map (λ source. (place, source)) (source_at node address))
-    (first_source (suc place) nodes address)
 
 -- The index has the first relay with a source of each address.
 abbrev pub IsSourceIndex : {A B : Type 0} → SourceIndex A → List (Node B) → Type 0

@@ -1,8 +1,8 @@
 //! Where clients and messages come in.
 
-ghost use Rattle.std.specs.Prelude.{◌≡◌};
-ghost use Rattle.std.specs.Option.{option_copied};
-ghost use Rattle.relay_net.specs.Network.{all_enter, enters, node_of, source_of_port, host_from};
+ghost use Rattle.std.specs.Prelude.{◌≡◌, [], string_bytes};
+ghost use Rattle.std.specs.Option.{option_copied, option_map_or};
+ghost use Rattle.relay_net.specs.Network.{all_enter, enters, node_of, source_of_port};
 
 use crate::node::{Client, Node};
 use relay_conf::{Relay, Source};
@@ -27,7 +27,8 @@ fn enters_one<A: Allocator>(relays: &[Node<A>], client: &Client<A>) -> bool
 
 /// The host of the relay that this number means, empty where it means none.
 pub(crate) fn host<A: Allocator>(relays: &[Node<A>], number: u32) -> &[u8]
-    ensures { result.now ≡ host_from relays.now number }
+    ensures { result.now
+        ≡ option_map_or (λ node. string_bytes node.host) (node_of relays.now number) [] }
 {
     match node_of_number(relays, number) {
         Some(node) => node.host.as_bytes(),

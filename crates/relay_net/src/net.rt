@@ -3,8 +3,7 @@
 ghost use Rattle.std.specs.Prelude.{◌≡◌, true, IfOk, IfErr, IfSome, IsSome, option_map, slice_get, ℕ};
 ghost use Rattle.std.specs.Option.{option_copied};
 ghost use Rattle.route_graph.specs.Listing.{IsWay, HasLeaves, HasEachOnce};
-ghost use Rattle.relay_net.specs.Network.{place_of, entrance, prefix_at, address_of_client, all_enter, output_at, is_in_memory};
-ghost use Rattle.relay_net.specs.Sources.{first_source};
+ghost use Rattle.relay_net.specs.Network.{place_of, entrance, prefix_at, address_of_client, all_enter, output_at, is_in_memory, first_source};
 ghost use Rattle.relay_net.specs.Ways.{table_at};
 
 use crate::address::Entrance;

@@ -1,9 +1,8 @@
 use Rattle.std.proofs.Common.{refl}
-use Rattle.relay_net.proofs.Hosts.{host_is}
 use Rattle.relay_net.proofs.entering.host.Goals as goal
 
 pub returns-in-Some : goal.returns-in-Some
-returns-in-Some g c = rw (host_is c.args.relays.now c.args.number, ← c.in-Some.ensures, c.as_bytes.ensures.value) refl
+returns-in-Some g c = rw (← c.in-Some.ensures, c.as_bytes.ensures.value) refl
 
 pub returns-in-None : goal.returns-in-None
-returns-in-None g c = rw (host_is c.args.relays.now c.args.number, ← c.in-None.ensures) refl
+returns-in-None g c = rw (← c.in-None.ensures) refl
