@@ -140,10 +140,7 @@ bad_byte_line text = count_by (λ b. b == 10) (take (utf8_valid_len text) text) 
 abbrev pub HasFault : List ℕ → FaultKind → ℕ → Type 0
 HasFault text kinds.NotUtf8 line = ¬ (IsUtf8 text) × (line ≡ bad_byte_line text)
 HasFault text kinds.OpenSection line = IsUtf8 text × EndsOpen (lines_of text) line
-HasFault text kinds.WrongEnd line = IsUtf8 text × BreaksAt (lines_of text) kinds.WrongEnd line
-HasFault text kinds.BadQuote line = IsUtf8 text × BreaksAt (lines_of text) kinds.BadQuote line
-HasFault text kinds.BadName line = IsUtf8 text × BreaksAt (lines_of text) kinds.BadName line
-HasFault text kinds.TooDeep line = IsUtf8 text × BreaksAt (lines_of text) kinds.TooDeep line
+HasFault text kind line = IsUtf8 text × BreaksAt (lines_of text) kind line
 
 -- why a text wasn't read: it has that fault, or memory ran out
 abbrev pub IsRefusal : List ℕ → ConfError → Type 0

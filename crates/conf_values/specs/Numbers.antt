@@ -1,5 +1,5 @@
 -- Whole numbers.
-use Rattle.std.specs.Prelude.{ℕ, ◌+◌, ◌-◌, ◌*◌, ◌^◌, Bool, ◌&&◌, List, length, fold, nat_lt, Option, Some, None, if◌then◌else◌}
+use Rattle.std.specs.Prelude.{ℕ, ◌+◌, ◌-◌, ◌*◌, ◌^◌, Bool, ◌&&◌, List, length, fold, nat_lt, Option, Some, None, if◌then◌else◌, option_and_then}
 use Rattle.std.specs.List.{list_all}
 use Rattle.std.specs.Char.{is_ascii_digit}
 use Rattle.std.specs.Int.{is_in_range}
@@ -20,11 +20,7 @@ fitting n = if nat_lt n (2 ^ 64) then Some n else None
 unfoldable pub number_of : List ℕ → Option ℕ
 number_of text = if is_digits text then fitting (decimal text) else None
 
--- a number from 1 to 65,535, and no other
-abbrev pub among_ports : Option ℕ → Option ℕ
-among_ports None = None
-among_ports (Some n) = if is_in_range 1 65535 n then Some n else None
-
 -- the port that a text spells: a whole number from 1 to 65,535
 unfoldable pub port_of : List ℕ → Option ℕ
-port_of text = among_ports (number_of text)
+port_of text = option_and_then (λ n. if is_in_range 1 65535 n then Some n else None)
+    (number_of text)

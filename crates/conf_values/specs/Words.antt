@@ -5,16 +5,12 @@ use Rattle.std.specs.Str.{bytes_eq}
 use Rattle.std.specs.Char.{is_ascii_alphanumeric}
 use Rattle.std.specs.Int.{is_in_range}
 
--- whether the text is one of these
-abbrev pub is_among : List (List ℕ) → List ℕ → Bool
-is_among words text = list_any (λ word. bytes_eq text word) words
-
 -- `true`, `yes` and the empty text are true, `false` and `no` are false, and no other text is
 -- either
 unfoldable pub boolean_of : List ℕ → Option Bool
 boolean_of text =
-    if is_among (codes "true" ∷ codes "yes" ∷ [] ∷ []) text then Some true
-    else (if is_among (codes "false" ∷ codes "no" ∷ []) text then Some false else None)
+    if list_any (bytes_eq text) (codes "true" ∷ codes "yes" ∷ [] ∷ []) then Some true
+    else (if list_any (bytes_eq text) (codes "false" ∷ codes "no" ∷ []) then Some false else None)
 
 -- whether the text begins with this byte
 abbrev pub begins : ℕ → List ℕ → Bool

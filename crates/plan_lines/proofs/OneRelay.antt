@@ -111,7 +111,7 @@ one_relay text r s h k =
 pub one_relay_fault : (text : List ℕ) (f g : RelayFault) → HasRelayFault text f → HasRelayFault text g → f ≡ g
 one_relay_fault text f g (elements, configured, refused) (others, configured2, refused2) =
     let same = one_reading text elements others configured configured2 in
-    first_once (all_found others) f g (subst (λ es. FirstStands (all_found es) f) same refused.1) refused2.1
+    first_once (all_found others) f g (subst (λ es. FirstStands (all_found es) f) same refused) refused2
 
 -- and never two of these
 pub text_or_relay_fault : (text : List ℕ) (f : ConfFault) (g : RelayFault) → HasTextFault text f.kind f.line → ¬ HasRelayFault text g
@@ -123,4 +123,4 @@ relay_or_text_fault text r f h fault = faultless text h.elements f h.configured 
 pub relay_or_fault : {A : Type 0} (text : List ℕ) (r : Relay A) (f : RelayFault) → IsRelayOfText text r → ¬ HasRelayFault text f
 relay_or_fault text r f h (elements, configured, refused) =
     let same = one_reading text elements h.elements configured h.configured in
-    all_or_first (all_found h.elements) f h.faultless (subst (λ es. FirstStands (all_found es) f) same refused.1)
+    all_or_first (all_found h.elements) f h.faultless (subst (λ es. FirstStands (all_found es) f) same refused)

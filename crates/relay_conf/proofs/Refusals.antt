@@ -22,10 +22,6 @@ any_from_first [] f h = h
 any_from_first (x ∷ xs) f (inl s) = inl s
 any_from_first (x ∷ xs) f (inr s) = inr (any_from_first xs f s.1)
 
-is_refusal : (elements : List Tree) (e : RelayError) → Refuses (all_found elements) e → IsRefusal elements e
-is_refusal elements errors.Memory h = tt
-is_refusal elements (errors.Fault f) h = (any_from_first (all_found elements) f h, h)
-
 is_memory : (xs : List Finding) (e : RelayError) → AllPass xs → Refuses xs e → e ≡ errors.Memory
 is_memory xs errors.Memory h s = refl
 is_memory xs (errors.Fault f) h s = absurd (none_stands xs f h (any_from_first xs f s))
@@ -36,7 +32,7 @@ faultless elements (Err e) h = tt
 
 pub refused : {X : Type 0} (elements : List Tree) (r : Result X RelayError) → Examines (all_found elements) r → IfErr r (λ e. IsRefusal elements e)
 refused elements (Ok x) h = tt
-refused elements (Err e) h = is_refusal elements e h
+refused elements (Err e) h = h
 
 pub not_read : {X : Type 0} (elements : List Tree) (r : Result X RelayError) → Examines (all_found elements) r → (f : RelayFault) → HasFault elements f → IfOk r (λ x. ⊥)
 not_read elements (Ok x) h f s = none_stands (all_found elements) f h s

@@ -1,6 +1,7 @@
 -- The section of a buffer (Fluentd, "Config: Buffer Section"): its parameters, what their words mean,
 -- and what a section says, where each value is that of its last line, or the default.
 use Rattle.std.specs.Prelude.{ℕ, ◌*◌, ◌^◌, ◌||◌, Bool, true, false, List, [], ◌∷◌, codes, Option, Some, None, unwrap_or, option_and_then, if◌then◌else◌, string_bytes}
+use Rattle.std.specs.Option.{option_map_or}
 use Rattle.std.specs.Int.{is_in_range}
 use Rattle.std.specs.Str.{bytes_eq}
 use Rattle.conf_text.specs.Trees.{Setting, Tree}
@@ -16,7 +17,7 @@ use Rattle.relay_conf.specs.declared.buffer.FlushMode.TheVariants.{Interval, Imm
 use Rattle.relay_conf.specs.declared.buffer.OverflowAction.{OverflowAction}
 use Rattle.relay_conf.specs.declared.buffer.OverflowAction.TheVariants.{ThrowException, DropOldestChunk}
 use Rattle.relay_conf.specs.declared.form.Form.TheVariants as form
-use Rattle.relay_conf.specs.Elements.{last_child, read_or, settings_in, value_of}
+use Rattle.relay_conf.specs.Elements.{last_child, read_or, settings_of, value_of}
 use Rattle.relay_conf.specs.Rows.{NamedForm, row}
 
 -- the parameters, beside the type
@@ -61,17 +62,10 @@ abbrev pub overflow_of : List ℕ → Option OverflowAction
 overflow_of text = if bytes_eq text (codes "throw_exception") then Some ThrowException
     else (if bytes_eq text (codes "drop_oldest_chunk") then Some DropOldestChunk else None)
 
--- a number of threads is a whole number from 1 to 64
-abbrev pub few_threads : ℕ → Option ℕ
-few_threads n = if is_in_range 1 64 n then Some n else None
-
--- the number of threads that a text spells
+-- the number of threads that a text spells: a whole number from 1 to 64
 abbrev pub threads_of : List ℕ → Option ℕ
-threads_of text = option_and_then few_threads (number_of text)
-
--- the only way in which waits grow
-abbrev pub is_retry_type : List ℕ → Bool
-is_retry_type text = bytes_eq text (codes "exponential_backoff")
+threads_of text = option_and_then (λ n. if is_in_range 1 64 n then Some n else None)
+    (number_of text)
 
 -- whether a buffer's chunks are in files
 abbrev pub is_file_of : List ℕ → Option Bool
@@ -95,38 +89,27 @@ retry_of settings = record {
   forever = read_or boolean_of false (value_of (codes "retry_forever") settings);
 }
 
--- a buffer's files, or none where it is in memory
-abbrev pub path_of : List Setting → Option (List ℕ)
-path_of settings = if has_files settings then Some (unwrap_or (value_of (codes "path") settings) [])
-    else None
-
--- how much a chunk may have: 8 MB in memory, 256 MB in a file
-abbrev pub chunk_limit : Bool → ℕ
-chunk_limit in_files = if in_files then 256 * 1024 ^ 2 else 8 * 1024 ^ 2
-
--- how much a buffer may have: 512 MB in memory, 64 GB in files
-abbrev pub total_limit : Bool → ℕ
-total_limit in_files = if in_files then 64 * 1024 ^ 3 else 512 * 1024 ^ 2
-
--- a buffer
+-- A buffer. In files a chunk may have 256 MB, and the buffer 64 GB; in memory 8 MB and 512 MB.
 abbrev pub buffer_of : List Setting → BufferMeaning
 buffer_of settings = record {
-  path = path_of settings;
+  path = if has_files settings then Some (unwrap_or (value_of (codes "path") settings) [])
+      else None;
   flush_mode = read_or flush_mode_of Interval (value_of (codes "flush_mode") settings);
   flush_interval = read_or seconds_of 60 (value_of (codes "flush_interval") settings);
   flush_thread_count = read_or threads_of 1 (value_of (codes "flush_thread_count") settings);
   retry = retry_of settings;
   overflow_action = read_or overflow_of ThrowException
       (value_of (codes "overflow_action") settings);
-  chunk_limit_size = read_or size_of (chunk_limit (has_files settings))
+  chunk_limit_size = read_or size_of (if has_files settings then 256 * 1024 ^ 2 else 8 * 1024 ^ 2)
       (value_of (codes "chunk_limit_size") settings);
-  total_limit_size = read_or size_of (total_limit (has_files settings))
+  total_limit_size = read_or size_of
+      (if has_files settings then 64 * 1024 ^ 3 else 512 * 1024 ^ 2)
       (value_of (codes "total_limit_size") settings);
 }
 
 -- the last buffer section, or all defaults where there is none
 abbrev pub buffer_in : List Tree → BufferMeaning
-buffer_in children = buffer_of (settings_in (last_child (codes "buffer") children))
+buffer_in children = buffer_of (option_map_or settings_of (last_child (codes "buffer") children) [])
 
 -- the path of a buffer's files
 abbrev pub kind_view : {A : Type 0} → BufferKind A → Option (List ℕ)

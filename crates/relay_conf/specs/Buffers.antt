@@ -7,10 +7,9 @@ use Rattle.relay_conf.specs.declared.relay.Relay.{Relay}
 
 -- the number of an output's buffer, if it has one
 abbrev pub buffer_number : {A : Type 0} → Output A → Option ℕ
-buffer_number (output.Null line) = None
-buffer_number (output.Relabel target line) = None
 buffer_number (output.Forward settings line) = Some settings.number.0
 buffer_number (output.File settings line) = Some settings.number.0
+buffer_number _ = None
 
 -- the output with this place in a match, which has this place in a scope, which has this place in
 -- the relay

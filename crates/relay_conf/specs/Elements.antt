@@ -47,8 +47,3 @@ abbrev pub last_child : List ℕ → List Tree → Option Tree
 last_child name [] = None
 last_child name (t ∷ rest) = or_else (last_child name rest)
     (if is_named name t then Some t else None)
-
--- the parameters of an element, if there is one
-abbrev pub settings_in : Option Tree → List Setting
-settings_in None = []
-settings_in (Some t) = settings_of t

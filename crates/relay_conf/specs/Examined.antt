@@ -2,6 +2,7 @@
 -- for.
 use Rattle.std.specs.Prelude.{ℕ, ◌||◌, ◌&&◌, ◌==◌, not, Bool, true, false, List, [], ◌∷◌, ◌++◌, codes, filter, length, Option, Some, None, is_none, if◌then◌else◌}
 use Rattle.std.specs.List.{list_any, flat_map, slice_split}
+use Rattle.std.specs.Option.{option_map_or}
 use Rattle.std.specs.Str.{bytes_eq}
 use Rattle.conf_text.specs.Trees.{Heading, Setting, Tree, tree, Trees, no_trees, more_trees}
 use Rattle.conf_values.specs.Words.{is_label_name}
@@ -56,18 +57,16 @@ patterns_found words line =
     found_if (length words == 0 || list_any begins_with_slash words) kinds.OutOfProfile line
     ++ patterns_in line words
 
--- a buffer's chunk key is the tag, written or not
-abbrev pub is_chunk_key : List ℕ → Bool
-is_chunk_key argument = bytes_eq argument [] || bytes_eq argument (codes "tag")
-
--- what is wrong with the way a section opens, by its place, name and argument
+-- What is wrong with the way a section opens, by its place, name and argument. A buffer's chunk key
+-- is the tag, written or not.
 abbrev pub opening_found : Option Opening → Heading → List Finding
 opening_found None h = a_fault (refusal h.name) h.line ∷ []
 opening_found (Some opening.Match) h = patterns_found (words_of h.argument) h.line
 opening_found (Some (opening.Plain sections.Label)) h =
     found_if (not (is_label_name h.argument)) kinds.BadValue h.line
 opening_found (Some (opening.Plain sections.Buffer)) h =
-    found_if (not (is_chunk_key h.argument)) kinds.OutOfProfile h.line
+    found_if (not (bytes_eq h.argument [] || bytes_eq h.argument (codes "tag"))) kinds.OutOfProfile
+    h.line
 opening_found (Some _) h = []
 
 -- a section that must have a type
@@ -77,41 +76,26 @@ needs_type (Some opening.Store) = true
 needs_type (Some (opening.Plain sections.Source)) = true
 needs_type _ = false
 
--- a match of this type
-abbrev pub match_section : Option OutputType → Section
-match_section None = sections.OtherMatch
-match_section (Some kind) = sections.Match kind
-
--- a store of this type
-abbrev pub store_section : Option OutputType → Section
-store_section None = sections.OtherStore
-store_section (Some kind) = sections.Store kind
-
--- a match or a store by its last type; one that has none is gone through no further
-abbrev pub typed : (List ℕ → Section) → Option (List ℕ) → Section
-typed section None = sections.Passed
-typed section (Some kind) = section kind
-
--- the section that an opening and a last type make
+-- the section that an opening and a last type make; a match or a store that has no type is gone
+-- through no further
 abbrev pub section_of : Option Opening → Option (List ℕ) → Section
 section_of None kind = sections.Passed
 section_of (Some (opening.Plain section)) kind = section
-section_of (Some opening.Match) kind = typed (λ k. match_section (output_type_of k)) kind
-section_of (Some opening.Store) kind = typed (λ k. store_section (store_type_of k)) kind
+section_of (Some opening.Match) kind = option_map_or (λ k. sections.Match (output_type_of k)) kind
+    sections.Passed
+section_of (Some opening.Store) kind = option_map_or (λ k. sections.Store (store_type_of k)) kind
+    sections.Passed
 
 -- what is passed over isn't looked at
 abbrev pub is_passed : Section → Bool
 is_passed sections.Passed = true
 is_passed _ = false
 
--- what is wrong with a parameter in a section
-abbrev pub setting_found : Section → Setting → List Finding
-setting_found section s = found_at s.line (setting_fault section s.name s.value)
-
 -- what is wrong with the parameters of a section
 abbrev pub settings_found : Section → List Setting → List Finding
 settings_found section [] = []
-settings_found section (s ∷ rest) = setting_found section s ++ settings_found section rest
+settings_found section (s ∷ rest) = found_at s.line (setting_fault section s.name s.value)
+    ++ settings_found section rest
 
 -- the same, where the section isn't passed over
 abbrev pub looked_at : Section → List Setting → List Finding
@@ -121,15 +105,11 @@ looked_at section settings = if is_passed section then [] else settings_found se
 abbrev pub lacks : List ℕ → List Setting → Bool
 lacks name settings = is_none (value_of name settings)
 
--- whether none of the elements has this name
-abbrev pub lacks_child : List ℕ → List Tree → Bool
-lacks_child name children = not (list_any (is_named name) children)
-
 -- whether an output lacks what its type asks for
 abbrev pub output_lacks : OutputType → List Setting → List Tree → Bool
-output_lacks outputs.Forward settings children = lacks_child (codes "server") children
+output_lacks outputs.Forward settings children = not (list_any (is_named (codes "server")) children)
 output_lacks outputs.File settings children = lacks (codes "path") settings
-output_lacks outputs.Copy settings children = lacks_child (codes "store") children
+output_lacks outputs.Copy settings children = not (list_any (is_named (codes "store")) children)
 output_lacks outputs.Relabel settings children = lacks (codes "@label") settings
 output_lacks outputs.Null settings children = false
 
@@ -140,8 +120,8 @@ section_lacks sections.Security settings children = lacks (codes "self_hostname"
     || lacks (codes "shared_key") settings
 section_lacks sections.Buffer settings children = has_files settings
     && lacks (codes "path") settings
-section_lacks (sections.Match kind) settings children = output_lacks kind settings children
-section_lacks (sections.Store kind) settings children = output_lacks kind settings children
+section_lacks (sections.Match (Some kind)) settings children = output_lacks kind settings children
+section_lacks (sections.Store (Some kind)) settings children = output_lacks kind settings children
 section_lacks _ settings children = false
 
 -- what is wrong with a section before its children: its opening, its type, its parameters

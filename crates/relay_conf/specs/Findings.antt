@@ -7,10 +7,6 @@ use Rattle.relay_conf.specs.declared.fault.RelayFault.{RelayFault}
 use Rattle.relay_conf.specs.declared.fault.RelayError.{RelayError}
 use Rattle.relay_conf.specs.declared.fault.RelayError.TheVariants as errors
 
--- a fault of this kind, in this line
-abbrev pub fault_at : RelayFaultKind → ℕ → RelayFault
-fault_at kind line = record { kind = kind; line = line }
-
 -- What is found where a configuration is gone through: a fault, or a text in a line that is one
 -- unless it is a pattern.
 pub data Finding : Type 0 where
@@ -24,9 +20,9 @@ Passes (a_pattern text line) = (slots : List Slot) × IsPattern slots text
 
 -- the finding is this fault
 abbrev pub Stands : Finding → RelayFault → Type 0
-Stands (a_fault kind line) f = f ≡ fault_at kind line
+Stands (a_fault kind line) f = f ≡ record { kind = kind; line = line }
 Stands (a_pattern text line) f = ((slots : List Slot) → ¬ IsPattern slots text)
-    × (f ≡ fault_at kinds.BadValue line)
+    × (f ≡ record { kind = kinds.BadValue; line = line })
 
 -- nothing is wrong anywhere
 abbrev pub AllPass : List Finding → Type 0

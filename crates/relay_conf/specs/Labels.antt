@@ -54,7 +54,3 @@ abbrev pub labels_from : List Tree → ℕ → List Tree → List Finding
 labels_from elements k [] = []
 labels_from elements k (t ∷ ts) = double_found (take k elements) t
     ++ (tree_targets elements t ++ labels_from elements (k + 1) ts)
-
--- what is wrong with the labels of a configuration
-abbrev pub labels_found : List Tree → List Finding
-labels_found elements = labels_from elements 0 elements

@@ -11,7 +11,8 @@ use Rattle.relay_conf.specs.declared.form.OutputType.TheVariants as outputs
 use Rattle.relay_conf.specs.Elements.{heading_of, settings_of, children_of, value_of, is_named, last_child, read_or}
 use Rattle.relay_conf.specs.BufferSection.{BufferMeaning, buffer_in}
 use Rattle.relay_conf.specs.Targets.{target_of}
-use Rattle.relay_conf.specs.Words.{output_type_of, prefix_of}
+use Rattle.relay_conf.specs.Words.{output_type_of}
+use Rattle.tag_pattern.specs.Prefixes.{is_prefix}
 
 -- what a security section says
 pub record SecurityMeaning : Type 0 where
@@ -74,7 +75,8 @@ source_of elements t = record {
   port = read_or port_of 24224 (value_of (codes "port") (settings_of t));
   bind = unwrap_or (value_of (codes "bind") (settings_of t)) (codes "0.0.0.0");
   label = target_of elements (value_of (codes "@label") (settings_of t));
-  prefix = option_and_then prefix_of (value_of (codes "add_tag_prefix") (settings_of t));
+  prefix = option_and_then (λ text. if is_prefix text then Some text else None)
+      (value_of (codes "add_tag_prefix") (settings_of t));
   security = security_in (children_of t);
   line = (heading_of t).line;
 }

@@ -1,10 +1,10 @@
 //! How an output keeps what it has not yet delivered (Fluentd, "Config: Buffer Section"): the
 //! parameters of a buffer's section, each with its row, its field, its default and its reading.
 
-ghost use Rattle.std.specs.Prelude.{◌≡◌, map, option_and_then, string_bytes, true, IfOk};
+ghost use Rattle.std.specs.Prelude.{◌≡◌, map, option_and_then, string_bytes, true, IfOk, ◌*◌, ◌^◌, None, Some, codes, unwrap_or, if◌then◌else◌, []};
 ghost use Rattle.conf_text.specs.Views.{setting, tree_of};
 ghost use Rattle.relay_conf.specs.Elements.{read_or, value_of};
-ghost use Rattle.relay_conf.specs.BufferSection.{buffer_in, buffer_of, buffer_rows, buffer_view, chunk_limit, flush_mode_of, has_files, is_file_of, keeping_settings, kind_view, overflow_of, path_of, retry_of, threads_of, total_limit};
+ghost use Rattle.relay_conf.specs.BufferSection.{buffer_in, buffer_of, buffer_rows, buffer_view, flush_mode_of, has_files, is_file_of, keeping_settings, kind_view, overflow_of, retry_of, threads_of};
 ghost use Rattle.relay_conf.specs.Rows.{rows_of};
 
 use crate::element::{last_child, pairs_of, value_of};
@@ -237,7 +237,10 @@ fn buffer_kind<A: Allocator + Copy>(
     alloc: A,
     pairs: &[Pair<A>],
 ) -> Result<BufferKind<A>, AllocError>
-    ensures { IfOk result (λ k. kind_view k ≡ path_of (map setting pairs.now)) }
+    ensures { IfOk result
+        (λ k. kind_view k
+        ≡ (if has_files (map setting pairs.now)
+        then Some (unwrap_or (value_of (codes "path") (map setting pairs.now)) []) else None)) }
 {
     if has_files(pairs) {
         Ok(BufferKind::File {
@@ -266,7 +269,7 @@ fn retry<A: Allocator>(pairs: &[Pair<A>]) -> RetrySettings
 }
 
 fn chunk_limit(in_files: bool) -> u64
-    ensures { result ≡ chunk_limit in_files }
+    ensures { result ≡ (if in_files then 256 * 1024 ^ 2 else 8 * 1024 ^ 2) }
 {
     if in_files {
         DEFAULT_FILE_CHUNK_LIMIT
@@ -276,7 +279,7 @@ fn chunk_limit(in_files: bool) -> u64
 }
 
 fn total_limit(in_files: bool) -> u64
-    ensures { result ≡ total_limit in_files }
+    ensures { result ≡ (if in_files then 64 * 1024 ^ 3 else 512 * 1024 ^ 2) }
 {
     if in_files {
         DEFAULT_FILE_TOTAL_LIMIT

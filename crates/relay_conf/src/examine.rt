@@ -1,13 +1,14 @@
 //! The sections of a configuration are examined, each with all that is in it.
 
-ghost use Rattle.std.specs.Prelude.{◌≡◌, ◌&&◌, map, IfOk, codes};
+ghost use Rattle.std.specs.Prelude.{◌≡◌, ◌&&◌, map, IfOk, codes, ◌||◌, not, []};
 ghost use Rattle.std.specs.List.{list_any};
 ghost use Rattle.std.specs.Option.{option_copied};
 ghost use Rattle.conf_text.specs.Views.{setting, tree_of};
 ghost use Rattle.conf_text.specs.Trees.{trees};
 ghost use Rattle.relay_conf.specs.Elements.{heading_of, settings_of, value_of, is_named};
 ghost use Rattle.relay_conf.specs.Findings.{Examines};
-ghost use Rattle.relay_conf.specs.Examined.{found_if, needs_type, section_of, match_section, store_section, is_passed, settings_found, looked_at, lacks, lacks_child, output_lacks, section_lacks, front_found, opening_found, tree_found, is_chunk_key};
+ghost use Rattle.relay_conf.specs.Examined.{found_if, needs_type, section_of, is_passed, settings_found, looked_at, lacks, output_lacks, section_lacks, front_found, opening_found, tree_found};
+ghost use Rattle.std.specs.Str.{bytes_eq};
 
 use crate::buffer::has_files;
 use crate::element::{argument_of, children_of, is_named, line_of, name_of, pairs_of, value_of};
@@ -128,7 +129,7 @@ pub(crate) fn fault_if(wrong: bool, kind: RelayFaultKind, line: usize) -> Result
 
 // Whether the argument of a buffer names no other chunk key than the tag.
 fn is_chunk_key(argument: &str) -> bool
-    ensures { result ≡ is_chunk_key argument.now }
+    ensures { result ≡ (bytes_eq argument.now [] || bytes_eq argument.now (codes "tag")) }
 {
     argument == "" || argument == "tag"
 }
@@ -156,27 +157,9 @@ fn section_of(opening: Option<Opening>, kind: Option<&str>) -> Section
 {
     match (opening, kind) {
         (Some(Opening::Plain(section)), _) => section,
-        (Some(Opening::Match), Some(kind)) => match_section(output_type(kind)),
-        (Some(Opening::Store), Some(kind)) => store_section(store_type(kind)),
+        (Some(Opening::Match), Some(kind)) => Section::Match(output_type(kind)),
+        (Some(Opening::Store), Some(kind)) => Section::Store(store_type(kind)),
         _ => Section::Passed,
-    }
-}
-
-fn match_section(kind: Option<OutputType>) -> Section
-    ensures { result ≡ match_section kind }
-{
-    match kind {
-        None => Section::OtherMatch,
-        Some(kind) => Section::Match(kind),
-    }
-}
-
-fn store_section(kind: Option<OutputType>) -> Section
-    ensures { result ≡ store_section kind }
-{
-    match kind {
-        None => Section::OtherStore,
-        Some(kind) => Section::Store(kind),
     }
 }
 
@@ -197,7 +180,9 @@ fn section_lacks<A: Allocator>(section: Section, pairs: &[Pair<A>], children: &[
         Section::Server => lacks(pairs, "host"),
         Section::Security => lacks(pairs, "self_hostname") || lacks(pairs, "shared_key"),
         Section::Buffer => has_files(pairs) && lacks(pairs, "path"),
-        Section::Match(kind) | Section::Store(kind) => output_lacks(kind, pairs, children),
+        Section::Match(Some(kind)) | Section::Store(Some(kind)) => {
+            output_lacks(kind, pairs, children)
+        }
         _ => false,
     }
 }
@@ -221,7 +206,7 @@ fn lacks<A: Allocator>(pairs: &[Pair<A>], name: &str) -> bool
 }
 
 fn lacks_child<A: Allocator>(children: &[Element<A>], name: &str) -> bool
-    ensures { result ≡ lacks_child name.now (map tree_of children.now) }
+    ensures { result ≡ not (list_any (is_named name.now) (map tree_of children.now)) }
 {
     for child in children {
         if is_named(child, name) {

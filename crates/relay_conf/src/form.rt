@@ -1,8 +1,9 @@
 //! What a parameter's value must be.
 
-ghost use Rattle.std.specs.Prelude.{◌≡◌};
-ghost use Rattle.relay_conf.specs.Words.{output_type_of, store_type_of, is_source_type, is_no_target, is_short};
-ghost use Rattle.relay_conf.specs.Forms.{value_fault, bad_unless, outside_unless, path_fault, target_fault, IsWordForm};
+ghost use Rattle.std.specs.Prelude.{◌≡◌, length, nat_le, Some, ◌||◌};
+ghost use Rattle.relay_conf.specs.Words.{output_type_of, store_type_of};
+ghost use Rattle.relay_conf.specs.Forms.{value_fault, bad_unless, outside_unless, IsWordForm};
+ghost use Rattle.conf_values.specs.Words.{most_host_bytes, has_slash, is_path, is_label_name};
 
 use crate::buffer::{flush_mode, is_file, overflow, threads};
 use crate::fault::RelayFaultKind;
@@ -129,7 +130,7 @@ fn outside_unless(known: bool) -> Option<RelayFaultKind>
 
 // The fault of a path, if it has one.
 fn path_fault(path: &[u8]) -> Option<RelayFaultKind>
-    ensures { result ≡ path_fault path.now }
+    ensures { result ≡ value_fault Form.Path path.now }
 {
     if has_slash(path) {
         return Some(RelayFaultKind::OutOfProfile);
@@ -139,7 +140,7 @@ fn path_fault(path: &[u8]) -> Option<RelayFaultKind>
 
 // The fault of a label that events go to, if it has one.
 fn target_fault(label: &str) -> Option<RelayFaultKind>
-    ensures { result ≡ target_fault label.now }
+    ensures { result ≡ value_fault Form.Target label.now }
 {
     if label == "@ROOT" || label == "@ERROR" {
         return Some(RelayFaultKind::OutOfProfile);
@@ -148,7 +149,7 @@ fn target_fault(label: &str) -> Option<RelayFaultKind>
 }
 
 fn is_short(name: &[u8]) -> bool
-    ensures { result ≡ is_short name.now }
+    ensures { result ≡ nat_le (length name.now) most_host_bytes }
 {
     is_host_name(name)
 }

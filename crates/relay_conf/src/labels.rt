@@ -4,7 +4,7 @@ ghost use Rattle.std.specs.Prelude.{◌≡◌, ◌&&◌, not, map, take, codes};
 ghost use Rattle.conf_text.specs.Views.{setting, tree_of};
 ghost use Rattle.relay_conf.specs.Elements.{heading_of};
 ghost use Rattle.relay_conf.specs.Findings.{Examines};
-ghost use Rattle.relay_conf.specs.Labels.{is_label, is_label_of, has_label, target_found, targets_found, tree_targets, double_found, labels_found};
+ghost use Rattle.relay_conf.specs.Labels.{is_label, is_label_of, has_label, target_found, targets_found, tree_targets, double_found, labels_from};
 
 use crate::element::{argument_of, is_named, line_of, name_of, pairs_of};
 use crate::examine::fault_if;
@@ -14,7 +14,7 @@ use std::alloc::Allocator;
 
 /// Goes through the labels of a configuration. An error is the first fault.
 pub(crate) fn examine_labels<A: Allocator>(elements: &[Element<A>]) -> Result<(), RelayError>
-    ensures { Examines (labels_found (map tree_of elements.now)) result }
+    ensures { Examines (labels_from (map tree_of elements.now) 0 (map tree_of elements.now)) result }
 {
     for i in 0..elements.len() {
         let element = &elements[i];

@@ -1,8 +1,9 @@
 //! The sections of a configuration, and what may stand in each.
 
-ghost use Rattle.std.specs.Prelude.{◌≡◌};
+ghost use Rattle.std.specs.Prelude.{◌≡◌, codes, Some, if◌then◌else◌};
 ghost use Rattle.relay_conf.specs.Rows.{rows_of};
-ghost use Rattle.relay_conf.specs.Sections.{section_rows, output_rows, type_form, form_of, setting_fault, form_fault, opening_in, top_opening, forward_opening, output_opening, only_opening, refusal};
+ghost use Rattle.relay_conf.specs.Sections.{section_rows, output_rows, type_form, setting_fault, form_fault, opening_in, output_opening, only_opening, refusal, other_form};
+ghost use Rattle.std.specs.Str.{bytes_eq};
 
 use crate::buffer::BUFFER_ROWS;
 use crate::fault::RelayFaultKind;
@@ -23,12 +24,10 @@ pub(crate) enum Section {
     Server,
     Security,
     Buffer,
-    Match(OutputType),
-    Store(OutputType),
-    /// A match of a type that isn't known.
-    OtherMatch,
-    /// A store of a type that isn't known.
-    OtherStore,
+    /// A match of this type, or of one that isn't known.
+    Match(Option<OutputType>),
+    /// A store of this type, or of one that isn't known.
+    Store(Option<OutputType>),
 }
 
 /// A section, by its name and place alone.
@@ -152,13 +151,15 @@ fn form_fault(form: Option<Form>, value: &str) -> Option<RelayFaultKind>
 
 // What the value of this name must be, if the section has it.
 fn form_of(section: Section, name: &str) -> Option<Form>
-    ensures { result ≡ form_of section name.now }
+    ensures { result
+        ≡ (if bytes_eq name.now (codes "@type") then type_form section
+        else other_form section name.now) }
 {
     if name == "@type" {
         return type_form(section);
     }
     match section {
-        Section::OtherMatch | Section::OtherStore => Some(Form::Text),
+        Section::Match(None) | Section::Store(None) => Some(Form::Text),
         _ => form_in(section_rows(section), name),
     }
 }
@@ -170,8 +171,8 @@ fn type_form(section: Section) -> Option<Form>
     match section {
         Section::Source => Some(Form::SourceType),
         Section::Buffer => Some(Form::BufferType),
-        Section::Match(_) | Section::OtherMatch => Some(Form::MatchType),
-        Section::Store(_) | Section::OtherStore => Some(Form::StoreType),
+        Section::Match(_) => Some(Form::MatchType),
+        Section::Store(_) => Some(Form::StoreType),
         _ => None,
     }
 }
@@ -185,7 +186,7 @@ fn section_rows(section: Section) -> &'static [Row]
         Section::Server => &SERVER_ROWS,
         Section::Security => &SECURITY_ROWS,
         Section::Buffer => &BUFFER_ROWS,
-        Section::Match(kind) | Section::Store(kind) => output_rows(kind),
+        Section::Match(Some(kind)) | Section::Store(Some(kind)) => output_rows(kind),
         _ => &[],
     }
 }
@@ -210,8 +211,8 @@ pub(crate) fn opening_in(parent: Section, name: &str) -> Option<Opening>
         Section::Top => top_opening(name),
         Section::Source => only(name, "security", Opening::Plain(Section::Security)),
         Section::Label => only(name, "match", Opening::Match),
-        Section::Match(kind) | Section::Store(kind) => output_opening(kind, name),
-        Section::Passed | Section::OtherMatch | Section::OtherStore => {
+        Section::Match(Some(kind)) | Section::Store(Some(kind)) => output_opening(kind, name),
+        Section::Passed | Section::Match(None) | Section::Store(None) => {
             Some(Opening::Plain(Section::Passed))
         }
         _ => None,
@@ -230,7 +231,7 @@ fn output_opening(kind: OutputType, name: &str) -> Option<Opening>
 }
 
 fn top_opening(name: &str) -> Option<Opening>
-    ensures { result ≡ top_opening name.now }
+    ensures { result ≡ opening_in Section.Top name.now }
 {
     if name == "" {
         return Some(Opening::Plain(Section::Outside));
@@ -248,7 +249,7 @@ fn top_opening(name: &str) -> Option<Opening>
 }
 
 fn forward_opening(name: &str) -> Option<Opening>
-    ensures { result ≡ forward_opening name.now }
+    ensures { result ≡ output_opening OutputType.Forward name.now }
 {
     if name == "server" {
         return Some(Opening::Plain(Section::Server));

@@ -1,12 +1,12 @@
 //! The values of parameters: those of their last lines, or the defaults.
 
-ghost use Rattle.std.specs.Prelude.{◌≡◌, map, IfOk, string_bytes, unwrap_or, option_and_then};
+ghost use Rattle.std.specs.Prelude.{◌≡◌, map, IfOk, string_bytes, unwrap_or, option_and_then, None, Some, if◌then◌else◌};
 ghost use Rattle.conf_text.specs.Views.{setting};
 ghost use Rattle.conf_values.specs.Numbers.{number_of, port_of};
 ghost use Rattle.conf_values.specs.Amounts.{size_of, seconds_of};
 ghost use Rattle.conf_values.specs.Words.{boolean_of};
 ghost use Rattle.relay_conf.specs.Elements.{read_or, value_of};
-ghost use Rattle.relay_conf.specs.Words.{prefix_of};
+ghost use Rattle.tag_pattern.specs.Prefixes.{is_prefix};
 
 use crate::element::value_of;
 use conf_text::Pair;
@@ -102,7 +102,9 @@ pub(crate) fn prefix<A: Allocator>(
     name: &str,
 ) -> Result<Option<Prefix<A>>, AllocError>
     ensures { IfOk result
-        (λ prefix. prefix ≡ option_and_then prefix_of (value_of name.now (map setting pairs.now))) }
+        (λ prefix. prefix
+        ≡ option_and_then (λ text. if is_prefix text then Some text else None)
+        (value_of name.now (map setting pairs.now))) }
 {
     let Some(value) = value_of(pairs, name) else {
         return Ok(None);

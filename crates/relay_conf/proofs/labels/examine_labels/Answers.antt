@@ -1,7 +1,7 @@
 use Rattle.std.proofs.Common.{◌+◌, ◌++◌, map, drop, take, Err}
 use Rattle.std.proofs.lemmas.Result.{err_from_is_err_and}
 use Rattle.conf_text.specs.Views.{tree_of}
-use Rattle.relay_conf.specs.Labels.{tree_targets, double_found, labels_found, labels_from}
+use Rattle.relay_conf.specs.Labels.{tree_targets, double_found, labels_from}
 use Rattle.relay_conf.proofs.Findings.{continues_behind, refuses_front, refuses_behind}
 use Rattle.relay_conf.proofs.Labelling.{labels_step}
 use Rattle.relay_conf.proofs.labels.examine_labels.Goals as goal
@@ -32,6 +32,6 @@ loop-i-preserved g c =
     let step = labels_step xs c.loop-i.i x c.loop-i-test.true c.index-elements-i.is in
     let right = rw c.split_at.ensures.front at c.in_ok-examine_name.ensures in
     let rest = labels_from (map tree_of xs) (c.loop-i.i + 1) (map tree_of (drop (c.loop-i.i + 1) xs)) in
-    let all = labels_found (map tree_of xs) in
+    let all = labels_from (map tree_of xs) 0 (map tree_of xs) in
     continues_behind (tree_targets (map tree_of xs) (tree_of x)) rest all c.in_ok-examine_targets.ensures
     (continues_behind (double_found (map tree_of (take c.loop-i.i xs)) (tree_of x)) (tree_targets (map tree_of xs) (tree_of x) ++ rest) all right (rw step at c.loop-i.invariant))
