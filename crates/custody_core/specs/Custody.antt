@@ -25,10 +25,6 @@ pub record IsOriginOf {A : Type 0} (net : Network A) (event : Event)
   pub tag : IsRoutedTag net message.address message.tag event.tag
   pub entry : Contains message.entries event.entry
 
--- A client sent this event, with these bytes and under a tag of which its tag is a routed one.
-abbrev pub WasSent : {A : Type 0} → Network A → World → Event → Type 0
-WasSent net w event = Any (IsOriginOf net event) w.messages
-
 -- An acknowledged event is kept as a plan asks: a buffer or a sink has it, under a tag that it may
 -- bear; or, under the duty every, it is kept along each branch of its way.
 abbrev pub IsKeptAs : {A : Type 0} → Duty → Network A → World → Told → Type 0
@@ -46,4 +42,5 @@ EachBranchKeeps net w = All (IsKeptEvery net w) w.acknowledged
 
 -- Whatever is in a sink was sent by a client.
 abbrev pub NothingIsMadeUp : {A : Type 0} → Network A → World → Type 0
-NothingIsMadeUp net w = (place buffer : ℕ) → All (WasSent net w) (w.buffers place buffer).sink
+NothingIsMadeUp net w = (place buffer : ℕ)
+    → All (λ event. Any (IsOriginOf net event) w.messages) (w.buffers place buffer).sink

@@ -1,6 +1,6 @@
 -- The state of a whole network: what its buffers and sinks hold, and all that was ever sent.
-use Rattle.std.specs.Prelude.{ℕ, ◌==◌, ◌&&◌, cond, List, []}
-use Rattle.custody_store.specs.Buffers.{BufferState, empty_buffer}
+use Rattle.std.specs.Prelude.{ℕ, ◌==◌, ◌&&◌, cond, List, [], None}
+use Rattle.custody_store.specs.Buffers.{BufferState}
 use Rattle.custody_store.specs.Book.{Message, Delivery, Told}
 
 -- the whole network at one time
@@ -13,7 +13,7 @@ pub record World : Type 0 where
 -- before the first step
 abbrev pub initial_world : World
 initial_world = record {
-  buffers = λ _ _. empty_buffer;
+  buffers = λ _ _. record { chunks = λ _. None; next = 0; sink = [] };
   messages = [];
   deliveries = [];
   acknowledged = [];

@@ -1,5 +1,5 @@
 -- A buffer with the sink of its output: what it holds, and what may happen to it.
-use Rattle.std.specs.Prelude.{◌≡◌, ℕ, zero, suc, ◌+◌, ◌==◌, ◌&&◌, not, Bool, true, false, cond, List, [], ◌++◌, map, Option, Some, None, option_map, Contains, IsSomeAnd, ◌⊎◌}
+use Rattle.std.specs.Prelude.{◌≡◌, ℕ, zero, suc, ◌+◌, ◌==◌, ◌&&◌, not, Bool, true, false, cond, List, ◌++◌, map, Option, Some, None, option_map, Contains, IsSomeAnd, ◌⊎◌}
 use Rattle.custody_store.specs.declared.chunk.Stage.{Stage}
 use Rattle.custody_store.specs.declared.chunk.Stage.TheVariants.{Staged, Queued, Claimed}
 
@@ -23,10 +23,6 @@ pub record BufferState : Type 0 where
   pub chunks : ℕ → Option Chunk
   pub next : ℕ
   pub sink : List Event
-
--- a buffer that nothing was appended to
-abbrev pub empty_buffer : BufferState
-empty_buffer = record { chunks = λ _. None; next = 0; sink = [] }
 
 -- the buffer with what it has at this serial
 abbrev pub with_chunk : ℕ → Option Chunk → BufferState → BufferState

@@ -10,7 +10,7 @@ use Rattle.loss_rules.specs.Addresses.{HasAddress}
 use Rattle.loss_rules.specs.Breaks.{AreNewBefore, BreaksAtSource}
 use Rattle.loss_rules.specs.Everywhere.{AreLines, IsOwnPlace}
 use Rattle.loss_rules.specs.Lines.{Adds, HoldsBefore, KeptInList, BrokenInList}
-use Rattle.loss_rules.specs.Rules.{RelayIsNew, source_in, IsBefore, SourceIsNew, AddressesAreDistinct}
+use Rattle.loss_rules.specs.Rules.{RelayIsNew, source_in, SourceIsNew, AddressesAreDistinct}
 use Rattle.loss_rules.specs.declared.answer.Place.{Place}
 use Rattle.loss_rules.specs.declared.answer.Place.TheVariants as variant
 use Rattle.loss_rules.specs.declared.label.RelayLine.{RelayLine}
@@ -79,7 +79,7 @@ module _ {A : Type 0} (net : Network A) where
         let port : one.port ≡ source.port = ports ∙ ap (λ (x : Source A). x.port) (sym two_same) in
         by before same port
       where
-        by : IsBefore place number p s → node ≡ second → one.port ≡ source.port → ⊥
+        by : ((p < place) ⊎ ((p ≡ place) × (s < number))) → node ≡ second → one.port ≡ source.port → ⊥
         by (inl less) same port =
             let got : slice_get first.relay.sources.items s ≡ Some one = source_of p s first one first_is one_is in
             free (

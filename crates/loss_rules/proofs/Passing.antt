@@ -11,11 +11,14 @@ use Rattle.tag_pattern.proofs.Sets.{subset, common_meets}
 use Rattle.relay_net.specs.Network.{Network}
 use Rattle.route_graph.specs.Ways.{HaveTag}
 use Rattle.loss_rules.specs.Labels.{IsReachOf, FitsLabelWith, IsReached, EachReach, IsLabelledTag, IsReachedTag}
-use Rattle.loss_rules.specs.Rules.{IsMatched, IsMatchedLabel, LabelsAreMatched, IsCovered, IsCoveredLabel, FitsNoneBefore, ReachesCoverLabel, ReachesCover}
+use Rattle.loss_rules.specs.Rules.{IsMatched, IsMatchedLabel, LabelsAreMatched, IsCovered, IsCoveredLabel, ReachesCoverLabel, ReachesCover, FitsMatch}
 use Rattle.loss_rules.specs.declared.label.Label.{Label}
 use Rattle.loss_rules.specs.declared.label.Reach.{Reach}
 use Rattle.loss_rules.specs.SafeWays.{IsFirstTaker}
 use Rattle.loss_rules.proofs.Takers.{some-taker}
+use Rattle.relay_conf.specs.declared.relay.MatchRule.{MatchRule}
+use Rattle.loss_rules.specs.Sites.{rule_at}
+use Rattle.std.specs.Prelude.{◌<◌, ◌≡◌}
 
 -- what fits one of some patterns has no tag that they lack
 fits-have : (p : List Item) (patterns : List (List Item)) (tag : List ℕ) → Any (Fits p) patterns → IsTagOf p tag → HaveTag patterns tag
@@ -72,7 +75,7 @@ covered-reached reaches place scope rule label pattern tag of_label of_pattern (
 pub taken-reached : {A : Type 0} (net : Network A) (reaches : List (Reach A)) (place scope : ℕ) (tag : List ℕ) → IsLabelPattern net reaches place scope tag → (rule : ℕ) → IsFirstTaker net place scope tag rule → IsReachedTag reaches place scope rule tag
 taken-reached {A} net reaches place scope tag labelled rule taker = by taker.has
   where
-    fits_none : FitsNoneBefore net place scope rule labelled.pattern
+    fits_none : ((before : ℕ) (found : MatchRule A) → before < rule → rule_at net place scope before ≡ Some found → ¬ FitsMatch labelled.pattern found)
     fits_none before other less e fits = taker.others before other less e (fits-have labelled.pattern other.patterns.items tag fits labelled.has)
 
     by : HaveTag taker.found.patterns.items tag → IsReachedTag reaches place scope rule tag

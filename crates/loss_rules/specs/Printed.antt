@@ -6,20 +6,11 @@ use Rattle.loss_rules.specs.declared.answer.Answer.TheVariants as answer
 use Rattle.loss_rules.specs.declared.answer.Place.{Place}
 use Rattle.loss_rules.specs.declared.answer.Place.TheVariants as place
 use Rattle.loss_rules.specs.declared.answer.Rule.{Rule}
-use Rattle.loss_rules.specs.declared.answer.Rule.TheVariants as rule
+use Rattle.loss_rules.specs.Breaks.{rule_number}
 
--- the code of a rule
+-- the code of a rule, from `K1` to `K10`
 abbrev pub rule_code : Rule → List ℕ
-rule_code rule.AddressesAreDistinct = codes "K1"
-rule_code rule.ServersAreSources = codes "K2"
-rule_code rule.ClientsAreLabelled = codes "K3"
-rule_code rule.LabelsAreMatched = codes "K4"
-rule_code rule.ReachesCover = codes "K5"
-rule_code rule.ReachedMatchesKeep = codes "K6"
-rule_code rule.RelabelsAreLabelled = codes "K7"
-rule_code rule.ForwardsAreLabelled = codes "K8"
-rule_code rule.PathsAreDistinct = codes "K9"
-rule_code rule.NoRelabelCycle = codes "K10"
+rule_code broken = codes "K" ++ decimal (rule_number broken)
 
 -- a line of the plan, or of a relay's configuration
 abbrev pub place_text : Place → List ℕ

@@ -42,14 +42,10 @@ abbrev pub source_in : {A : Type 0} → Network A → ℕ → ℕ → Option (So
 source_in net place source = option_and_then (λ node. slice_get node.relay.sources.items source)
     (slice_get net.relays place)
 
--- The source is before this one: in a relay before its relay, or before it in its relay.
-abbrev pub IsBefore : (place source : ℕ) → (other_place other_source : ℕ) → Type 0
-IsBefore place source p s = (p < place) ⊎ ((p ≡ place) × (s < source))
-
 -- The source with this place in the relay at this place has another address than each source before
 -- it.
 abbrev pub SourceIsNew : {A : Type 0} → Network A → ℕ → ℕ → Type 0
-SourceIsNew {A} net place source = (p s : ℕ) → IsBefore place source p s
+SourceIsNew {A} net place source = (p s : ℕ) → (p < place) ⊎ ((p ≡ place) × (s < source))
     → (one two : Source A) (first second : Node A)
     → source_in net p s ≡ Some one → source_in net place source ≡ Some two
     → slice_get net.relays p ≡ Some first → slice_get net.relays place ≡ Some second
@@ -109,18 +105,14 @@ abbrev pub IsCovered : {A : Type 0} → List (Reach A) → ℕ → ℕ → ℕ �
 IsCovered reaches place scope rule label pattern = (¬ Meets pattern label)
     ⊎ (FitsReach reaches place scope rule label ⊎ FitsReach reaches place scope rule pattern)
 
--- The label's pattern fits no match of the scope before this one.
-abbrev pub FitsNoneBefore : {A : Type 0} → Network A → ℕ → ℕ → ℕ → List Item → Type 0
-FitsNoneBefore {A} net place scope rule label = (before : ℕ) (found : MatchRule A) → before < rule
-    → rule_at net place scope before ≡ Some found → ¬ FitsMatch label found
-
 -- The reaches of each match, up to and with the first that the label's pattern fits, cover what the
 -- two may have in common. Where it fits none, nothing is asked for.
 abbrev pub ReachesCoverLabel : {A : Type 0} → Network A → List (Reach A) → ℕ → ℕ → List Item
     → Type 0
 ReachesCoverLabel {A} net reaches place scope label = IsMatched net place scope label
     → (rule : ℕ) (found : MatchRule A) → rule_at net place scope rule ≡ Some found
-    → FitsNoneBefore net place scope rule label
+    → ((before : ℕ) (other : MatchRule A) → before < rule
+    → rule_at net place scope before ≡ Some other → ¬ FitsMatch label other)
     → All (IsCovered reaches place scope rule label) found.patterns.items
 
 -- This is so of each pattern of the label.
@@ -138,12 +130,6 @@ ReachesCover net labels reaches = All (IsCoveredLabel net reaches) labels
 abbrev pub KeepsOrRelabels : {A : Type 0} → MatchRule A → Type 0
 KeepsOrRelabels rule =
     Any (λ found. Keeps found ⊎ ((scope : ℕ) × RelabelsTo found scope)) rule.outputs.items
-
--- This is so of each reached match.
-abbrev pub ReachedMatchesKeep : {A : Type 0} → Network A → List (Reach A) → Type 0
-ReachedMatchesKeep net reaches =
-    EachMatch net (λ place scope rule found. IsReached reaches place scope rule
-    → KeepsOrRelabels found)
 
 -- Each of the match's outputs keeps, or sends events on to another scope.
 abbrev pub AllKeepOrRelabel : {A : Type 0} → MatchRule A → Type 0
@@ -207,10 +193,8 @@ buffer_path found = option_and_then (λ settings. kind_view settings.kind) (sett
 
 -- the path of an output's sink, if it has one
 abbrev pub sink_path : {A : Type 0} → Output A → Option (List ℕ)
-sink_path (output.Null line) = None
-sink_path (output.Relabel target line) = None
-sink_path (output.Forward settings line) = None
 sink_path (output.File settings line) = Some (string_bytes settings.path)
+sink_path _ = None
 
 -- The outputs share a path of their buffers, or one of their sinks.
 abbrev pub SharePath : {A : Type 0} → Output A → Output A → Type 0
@@ -257,7 +241,8 @@ pub record AreKeepingRulesKept {A : Type 0} (net : Network A) (labels : List (La
   pub clients : ClientsAreLabelled net labels
   pub labels_matched : LabelsAreMatched net labels
   pub covered : ReachesCover net labels reaches
-  pub kept : ReachedMatchesKeep net reaches
+  pub kept : EachMatch net (λ place scope rule found. IsReached reaches place scope rule
+      → KeepsOrRelabels found)
   pub relabels : RelabelsAreLabelled net labels reaches
   pub forwards : ForwardsAreLabelled net labels reaches
   pub no_cycle : NoRelabelCycle net reaches

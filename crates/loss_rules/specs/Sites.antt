@@ -55,10 +55,8 @@ line_of (output.File settings line) = line
 
 -- The output sends its events on to this scope.
 abbrev pub RelabelsTo : {A : Type 0} → Output A → ℕ → Type 0
-RelabelsTo (output.Null line) scope = ⊥
 RelabelsTo (output.Relabel target line) scope = target.0 ≡ scope
-RelabelsTo (output.Forward settings line) scope = ⊥
-RelabelsTo (output.File settings line) scope = ⊥
+RelabelsTo _ scope = ⊥
 
 -- Each relay's outputs have buffers of their own.
 abbrev pub BuffersAreDistinct : {A : Type 0} → Network A → Type 0

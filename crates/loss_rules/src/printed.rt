@@ -1,9 +1,32 @@
 //! What the checker's answer is printed as.
 
+ghost use Rattle.std.specs.Prelude.{◌≡◌};
+ghost use Rattle.loss_rules.specs.Breaks.{rule_number};
+
 use crate::answer::{Answer, Place, Rule};
 use std::fmt;
 
-// `K1` to `K10`, in the order in which the rules are looked at.
+impl Rule {
+    // Its number, in the order in which the rules are looked at.
+    fn number(&self) -> u8
+        ensures { result ≡ rule_number self.now }
+    {
+        match self {
+            Rule::AddressesAreDistinct => 1,
+            Rule::ServersAreSources => 2,
+            Rule::ClientsAreLabelled => 3,
+            Rule::LabelsAreMatched => 4,
+            Rule::ReachesCover => 5,
+            Rule::ReachedMatchesKeep => 6,
+            Rule::RelabelsAreLabelled => 7,
+            Rule::ForwardsAreLabelled => 8,
+            Rule::PathsAreDistinct => 9,
+            Rule::NoRelabelCycle => 10,
+        }
+    }
+}
+
+// `K1` to `K10`.
 impl fmt::Display for Rule {
     ghost use Rattle.std.specs.Prelude.{Some};
     ghost use Rattle.loss_rules.specs.Printed.{rule_code};
@@ -11,18 +34,7 @@ impl fmt::Display for Rule {
     ghost output = { λ rule. Some (rule_code rule) };
 
     fn fmt<W: fmt::Write>(&self, f: &mut fmt::Formatter<W>) -> fmt::Result {
-        f.write_str(match self {
-            Rule::AddressesAreDistinct => "K1",
-            Rule::ServersAreSources => "K2",
-            Rule::ClientsAreLabelled => "K3",
-            Rule::LabelsAreMatched => "K4",
-            Rule::ReachesCover => "K5",
-            Rule::ReachedMatchesKeep => "K6",
-            Rule::RelabelsAreLabelled => "K7",
-            Rule::ForwardsAreLabelled => "K8",
-            Rule::PathsAreDistinct => "K9",
-            Rule::NoRelabelCycle => "K10",
-        })
+        write!(f, "K{}", self.number())
     }
 }
 

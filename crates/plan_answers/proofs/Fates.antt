@@ -1,6 +1,6 @@
 -- What became of the events so far, while they are listed one after another.
 use Rattle.std.proofs.Common.{Result, ◌≡◌, ◌<◌, ◌≤◌, ◌+◌, ℕ, List, [], ◌∷◌, ◌++◌, length, map, take, get_or, slice_get, option_map, Bool, true, false, cond, not, refl, sym, ap, ◌∙◌, subst, arith, add-one, append-nil}
-use Rattle.std.specs.Prelude.{All, IfOk, IsSomeAnd, IsTrue, ◌↔◌, flat_map}
+use Rattle.std.specs.Prelude.{All, IfOk, IsSomeAnd, IsTrue, ◌↔◌, flat_map, count_by, codes}
 use Rattle.std.proofs.lemmas.Grind.{flat_map-append}
 use Rattle.std.proofs.lemmas.List.{map-append}
 use Rattle.std.proofs.lemmas.List.Elements.{All-append, All-cons, All-nil}
@@ -13,8 +13,10 @@ use Rattle.relay_net.specs.Network.{Network}
 use Rattle.custody_steps.specs.World.{World}
 use Rattle.custody_core.specs.Custody.{IsKeptAs}
 use Rattle.loss_rules.specs.declared.label.Duty.{Duty}
-use Rattle.plan_answers.specs.Replays.{Fate, AreListed, IsWorldListing, lost_among, told_line, fate_line}
+use Rattle.plan_answers.specs.Replays.{Fate, AreListed, IsWorldListing, fate_line}
 use Rattle.program_text.specs.declared.status.Status.{Status}
+use Rattle.hex.specs.Hex.{encode_lower}
+use Rattle.program_text.specs.Lines.{line}
 
 -- the lines of the first n events
 pub record AreListedTo {A : Type 0} (asked : Duty) (net : Network A) (w : World) (events : List (Acknowledged A)) (n : ℕ) (lines : List ℕ) (lost : ℕ) : Type 0 where
@@ -22,7 +24,7 @@ pub record AreListedTo {A : Type 0} (asked : Duty) (net : Network A) (w : World)
   pub events_are : map (λ fate. fate.told) fates ≡ map told_of (take n events)
   pub held : All (λ fate. IsTrue fate.is_held ↔ IsKeptAs asked net w fate.told) fates
   pub lines_are : lines ≡ flat_map fate_line fates
-  pub lost_is : lost ≡ lost_among fates
+  pub lost_is : lost ≡ (count_by (λ fate. not fate.is_held) fates)
   pub few : lost ≤ n
 
 pub listed_none : {A : Type 0} (asked : Duty) (net : Network A) (w : World) (events : List (Acknowledged A)) → AreListedTo asked net w events 0 [] 0
@@ -32,9 +34,9 @@ one_lost : (is_held : Bool) → 0 + cond (not is_held) 1 0 ≡ cond is_held 0 1
 one_lost true = refl
 one_lost false = refl
 
-lost_more : (fates : List Fate) (fate : Fate) → lost_among (fates ++ fate ∷ []) ≡ lost_among fates + cond fate.is_held 0 1
+lost_more : (fates : List Fate) (fate : Fate) → (count_by (λ fate. not fate.is_held) (fates ++ fate ∷ [])) ≡ (count_by (λ fate. not fate.is_held) fates) + cond fate.is_held 0 1
 lost_more fates fate =
-    sum_by-append (λ f. cond (not f.is_held) 1 0) fates (fate ∷ []) ∙ ap (λ n. lost_among fates + n) (one_lost fate.is_held)
+    sum_by-append (λ f. cond (not f.is_held) 1 0) fates (fate ∷ []) ∙ ap (λ n. (count_by (λ fate. not fate.is_held) fates) + n) (one_lost fate.is_held)
 
 taken_more : {A : Type 0} (events : List (Acknowledged A)) (n : ℕ) (event : Acknowledged A) → n < length events → event ≡ get_or events n event
     → map told_of (take (n + 1) events) ≡ map told_of (take n events) ++ told_of event ∷ []
@@ -45,7 +47,7 @@ taken_more events n event lt is =
 -- one event more
 pub listed_more : {A : Type 0} (asked : Duty) (net : Network A) (w : World) (events : List (Acknowledged A)) (n : ℕ) (lines : List ℕ) (lost : ℕ) (event : Acknowledged A) (is_held : Bool) (lines' : List ℕ) (lost' : ℕ)
     → AreListedTo asked net w events n lines lost → n < length events → event ≡ get_or events n event → (IsTrue is_held ↔ IsKeptAs asked net w (told_of event))
-    → lines' ≡ lines ++ told_line is_held (told_of event).event → lost' ≡ lost + cond is_held 0 1 → lost' ≤ n + 1
+    → lines' ≡ lines ++ (line (cond is_held (codes "held ") (codes "lost ") ++ (told_of event).event.tag ++ codes " " ++ encode_lower (told_of event).event.entry)) → lost' ≡ lost + cond is_held 0 1 → lost' ≤ n + 1
     → AreListedTo asked net w events (n + 1) lines' lost'
 listed_more asked net w events n lines lost event is_held lines' lost' so_far lt is held more fewer few =
     let fate : Fate = record { told = told_of event; is_held = is_held } in
@@ -71,7 +73,8 @@ pub listed_all : {A : Type 0} (asked : Duty) (net : Network A) (w : World) (even
     → AreListedTo asked net w events (length events) lines lost → AreListed asked net w lines lost
 listed_all asked net w events lines lost told so_far = record {
   fates = so_far.fates;
-  are_fates = record { events = so_far.events_are ∙ ap (map told_of) (take-length events) ∙ told; held = so_far.held };
+  events = so_far.events_are ∙ ap (map told_of) (take-length events) ∙ told;
+  held = so_far.held;
   lines_are = so_far.lines_are;
   lost_is = so_far.lost_is;
 }

@@ -129,9 +129,8 @@ pub data IsChecked (A : Type 0) (net : Option (List ℕ)) (named : List ℕ → 
 -- the status of a plan's answer and of steps in it: a no stays a no, whatever becomes of the events
 abbrev pub joined_status : Answer → Status → Status
 joined_status answer.Yes after = after
-joined_status (answer.No rule place) Done = No
-joined_status (answer.No rule place) No = No
 joined_status (answer.No rule place) Usage = Usage
+joined_status (answer.No rule place) _ = No
 
 -- What `replay` prints of a plan and steps: behind the line of the answer what is listed of the
 -- steps, or the line that says why nothing is; or the line that says why there is no answer.

@@ -6,7 +6,6 @@ use Rattle.custody_steps.specs.Steps.{Steps, IsRefusedAt}
 use Rattle.custody_steps.specs.World.{World, initial_world}
 use Rattle.custody_steps.specs.declared.fault.StepFault.{StepFault}
 use Rattle.custody_steps.specs.declared.fault.StepFault.TheVariants as refusal
-use Rattle.custody_store.specs.Buffers.{Event}
 use Rattle.loss_rules.specs.Breaks.{Subject}
 use Rattle.loss_rules.specs.Rules.{AreKeepingRulesKept, EachOutputKeeps}
 use Rattle.loss_rules.specs.declared.answer.Answer.{Answer}
@@ -27,45 +26,21 @@ pub record Fate : Type 0 where
   pub told : Told
   pub is_held : Bool
 
--- These are the events of the world that were acknowledged to clients, in that order, each with
--- what became of it.
-pub record AreFates {A : Type 0} (asked : Duty) (net : Network A) (w : World)
-    (fates : List Fate) : Type 0 where
-  pub events : map (λ fate. fate.told) fates ≡ w.acknowledged
-  pub held : All (λ fate. IsTrue fate.is_held ↔ IsKeptAs asked net w fate.told) fates
-
--- how many of the events are lost
-abbrev pub lost_among : List Fate → ℕ
-lost_among fates = count_by (λ fate. not fate.is_held) fates
-
--- the line of an event: whether it is held, its tag, and its entry in hex
-abbrev pub told_line : Bool → Event → List ℕ
-told_line is_held event =
-    line (cond is_held (codes "held ") (codes "lost ") ++ event.tag ++ codes " "
-    ++ encode_lower event.entry)
-
 -- the line of what became of an event, under the tag that the client sent
 abbrev pub fate_line : Fate → List ℕ
-fate_line fate = told_line fate.is_held fate.told.event
+fate_line fate =
+    line (cond fate.is_held (codes "held ") (codes "lost ") ++ fate.told.event.tag ++ codes " "
+    ++ encode_lower fate.told.event.entry)
 
--- the last line: how many steps were taken, how many events acknowledged, and how many of these are
--- lost
-abbrev pub summary_line : ℕ → ℕ → ℕ → List ℕ
-summary_line steps acknowledged lost =
-    line (codes "steps " ++ decimal steps ++ codes " acknowledged " ++ decimal acknowledged
-    ++ codes " lost " ++ decimal lost)
-
--- the status where so many events are lost
-abbrev pub lost_status : ℕ → Status
-lost_status lost = cond (lost == 0) Done No
-
--- These lines are those of the world's acknowledged events, one each, and so many of them are lost.
+-- These lines are those of the events of the world that were acknowledged to clients, in that order,
+-- each with what became of it; and so many of them are lost.
 pub record AreListed {A : Type 0} (asked : Duty) (net : Network A) (w : World) (lines : List ℕ)
     (lost : ℕ) : Type 0 where
   pub fates : List Fate
-  pub are_fates : AreFates asked net w fates
+  pub events : map (λ fate. fate.told) fates ≡ w.acknowledged
+  pub held : All (λ fate. IsTrue fate.is_held ↔ IsKeptAs asked net w fate.told) fates
   pub lines_are : lines ≡ flat_map fate_line fates
-  pub lost_is : lost ≡ lost_among fates
+  pub lost_is : lost ≡ count_by (λ fate. not fate.is_held) fates
 
 -- The listing of a world after so many steps: a line for each event that was acknowledged, and the
 -- last line.
@@ -74,22 +49,15 @@ pub record IsWorldListing {A : Type 0} (asked : Duty) (net : Network A) (w : Wor
   pub lines : List ℕ
   pub lost : ℕ
   pub listed : AreListed asked net w lines lost
-  pub written_is : written ≡ lines ++ summary_line steps (length w.acknowledged) lost
-  pub is_status : status ≡ lost_status lost
+  pub written_is : written ≡ lines ++ line (codes "steps " ++ decimal steps ++ codes " acknowledged "
+      ++ decimal (length w.acknowledged) ++ codes " lost " ++ decimal lost)
+  pub is_status : status ≡ cond (lost == 0) Done No
 
 -- the code of a refusal; want of memory is none
 abbrev pub IsCodeOf : StepFault → List ℕ → Type 0
 IsCodeOf refusal.NoSuch code = code ≡ codes "S1"
 IsCodeOf refusal.NotAllowed code = code ≡ codes "S2"
 IsCodeOf refusal.Memory code = ⊥
-
--- the line of a step that is refused: which one, counted from 1, and why
-abbrev pub refusal_line : ℕ → List ℕ → List ℕ
-refusal_line number code = line (codes "refused step " ++ decimal number ++ codes " " ++ code)
-
--- the line of a text whose line of this number, counted from 1, says neither a step nor nothing
-abbrev pub bad_line : ℕ → List ℕ
-bad_line number = line (codes "fault S3 line " ++ decimal number)
 
 -- Where the answer is yes, the rules hold of the plan under which nothing is lost, with what it
 -- asks of each match.
@@ -121,8 +89,10 @@ pub data IsReplayed {A : Type 0} (plan : Subject A) (found : Answer) (text writt
   lists_fates : AreTaken plan found text written status → IsReplayed plan found text written status
   lists_refusal : (steps : List (Step A)) (number : ℕ) (fault : StepFault) (code : List ℕ)
       → SayAll (text_lines text) steps → IsRefusedAt plan.net steps number fault
-      → IsCodeOf fault code → written ≡ refusal_line number code → status ≡ No
+      → IsCodeOf fault code
+      → written ≡ line (codes "refused step " ++ decimal number ++ codes " " ++ code) → status ≡ No
       → IsReplayed plan found text written status
-  lists_bad_line : (number : ℕ) → IsRefusedLine A text number → written ≡ bad_line number
+  lists_bad_line : (number : ℕ) → IsRefusedLine A text number
+      → written ≡ line (codes "fault S3 line " ++ decimal number)
       → status ≡ Usage
       → IsReplayed plan found text written status

@@ -1,10 +1,12 @@
 //! The listing of steps that are taken in a network.
 
-ghost use Rattle.std.specs.Prelude.{◌≡◌, ◌++◌, ℕ, List, string_bytes, IfOk, IfSome, OnOk};
+ghost use Rattle.std.specs.Prelude.{◌≡◌, ◌++◌, ℕ, List, string_bytes, IfOk, IfSome, OnOk, cond, ◌==◌, codes, decimal};
 ghost use Rattle.custody_steps.specs.WorldOf.{world_of, net_of};
 ghost use Rattle.custody_store.specs.Contents.{event_of};
 ghost use Rattle.loss_rules.specs.declared.answer.Answer.{Answer};
-ghost use Rattle.plan_answers.specs.Replays.{told_line, bad_line, lost_status, refusal_line, summary_line, AreListed, IsCodeOf, IsWorldListing, IsReplayed, IsYesEarned};
+ghost use Rattle.plan_answers.specs.Replays.{AreListed, IsCodeOf, IsWorldListing, IsReplayed, IsYesEarned};
+ghost use Rattle.hex.specs.Hex.{encode_lower};
+ghost use Rattle.program_text.specs.Lines.{line};
 
 use custody_core::{Event, Step, StepFault, StepsError, World, is_kept_as, run};
 use loss_checker::{Duty, Plan};
@@ -43,11 +45,12 @@ pub fn replay<A: Allocator + Copy>(
 }
 
 // The line of a text with a line that is of no step's form.
-fn list_bad_line<A: Allocator + Copy>(alloc: A, line: usize) -> Result<Said<A>, AllocError>
+fn list_bad_line<A: Allocator + Copy>(alloc: A, number: usize) -> Result<Said<A>, AllocError>
     ensures { IfOk result
-        (λ said. (said.lines.items ≡ bad_line line) × (said.status ≡ Status.Usage)) }
+        (λ said. (said.lines.items ≡ line (codes "fault S3 line " ++ decimal number))
+        × (said.status ≡ Status.Usage)) }
 {
-    let text = format!(in alloc; "fault S3 line {line}\n")?;
+    let text = format!(in alloc; "fault S3 line {number}\n")?;
     let lines = Vec::from_slice(alloc, text.as_bytes())?;
     Ok(Said {
         lines,
@@ -73,7 +76,8 @@ fn list_refusal<A: Allocator + Copy>(
     fault: StepFault,
 ) -> Result<Said<A>, AllocError>
     ensures { IfOk result (λ said. (code : List ℕ) × IsCodeOf fault code
-        × (said.lines.items ≡ refusal_line step code) × (said.status ≡ Status.No)) }
+        × (said.lines.items ≡ line (codes "refused step " ++ decimal step ++ codes " " ++ code))
+        × (said.status ≡ Status.No)) }
 {
     let Some(code) = refusal_code(fault) else {
         return Err(AllocError);
@@ -117,14 +121,17 @@ fn summary<A: Allocator>(
     acknowledged: usize,
     lost: usize,
 ) -> Result<String<A>, AllocError>
-    ensures { IfOk result (λ text. string_bytes text ≡ summary_line steps acknowledged lost) }
+    ensures { IfOk result
+        (λ text. string_bytes text
+        ≡ line (codes "steps " ++ decimal steps ++ codes " acknowledged " ++ decimal acknowledged
+        ++ codes " lost " ++ decimal lost)) }
 {
     format!(in alloc; "steps {steps} acknowledged {acknowledged} lost {lost}\n")
 }
 
 // The status where so many events are lost.
 fn status_of_loss(lost: usize) -> Status
-    ensures { result ≡ lost_status lost }
+    ensures { result ≡ cond (lost == 0) Status.Done Status.No }
 {
     if lost == 0 { Status::Done } else { Status::No }
 }
@@ -166,7 +173,9 @@ fn put_fate<A: Allocator>(
     is_held: bool,
 ) -> Result<(), AllocError>
     ensures { OnOk result
-        (lines.new.items ≡ lines.old.items ++ told_line is_held (event_of event.now)) }
+        (lines.new.items ≡ lines.old.items
+        ++ line (cond is_held (codes "held ") (codes "lost ") ++ (event_of event.now).tag
+        ++ codes " " ++ encode_lower (event_of event.now).entry)) }
 {
     let fate = if is_held { "held " } else { "lost " };
     lines.extend_from_slice(fate.as_bytes())?;

@@ -1,6 +1,6 @@
 -- That each relay's line names a configuration, and no other line that has a form does.
 use Rattle.std.proofs.Common.{◌≡◌, ◌∙◌, ℕ, ◌+◌, Bool, true, false, List, [], ◌∷◌, ◌++◌, length, Option, Some, None, refl, sym, ap, codes, arith, if◌then◌else◌}
-use Rattle.std.specs.List.{filter_map}
+use Rattle.std.specs.List.{filter_map, list_all}
 use Rattle.std.specs.Str.{bytes_eq, is_utf8}
 use Rattle.std.proofs.lemmas.Bool.{false≢true, eqb-true}
 use Rattle.std.proofs.lemmas.List.{length-append}
@@ -8,7 +8,7 @@ use Rattle.std.proofs.lemmas.List.Elements.{filter_map-append}
 use Rattle.relay_conf.specs.Examined.{words_of}
 use Rattle.loss_rules.specs.declared.label.Duty.TheVariants.{Any, Every}
 use Rattle.plan_lines.specs.Drafts.{HasItsConf}
-use Rattle.plan_lines.specs.Forms.{LineForm, nothing, a_relay, a_client, a_label, a_reach, a_duty, no_form, is_folder, is_comment, relay_form, client_form, label_form, reach_form, duty_form, named_form, form_of, line_form, conf_field, conf_named}
+use Rattle.plan_lines.specs.Forms.{LineForm, nothing, a_relay, a_client, a_label, a_reach, a_duty, no_form, is_comment, relay_form, client_form, label_form, reach_form, duty_form, named_form, form_of, line_form, conf_field, conf_named, is_folder_byte}
 
 -- how many configurations a line of this form names
 abbrev pub confs_in : LineForm → ℕ
@@ -79,7 +79,7 @@ relay_named [] formed = absurd (formed refl)
 relay_named (a ∷ []) formed = absurd (formed refl)
 relay_named (a ∷ b ∷ []) formed = absurd (formed refl)
 relay_named (a ∷ b ∷ c ∷ []) formed = absurd (formed refl)
-relay_named (a ∷ b ∷ c ∷ d ∷ []) formed = folder_named (is_folder c) a b c d formed
+relay_named (a ∷ b ∷ c ∷ d ∷ []) formed = folder_named (list_all is_folder_byte c) a b c d formed
 relay_named (a ∷ b ∷ c ∷ d ∷ e ∷ more) formed = absurd (formed refl)
 
 -- the form of a line by the tests of its first field

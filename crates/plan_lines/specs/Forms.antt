@@ -25,13 +25,9 @@ pub data LineForm : Type 0 where
 unfoldable pub is_folder_byte : ℕ → Bool
 is_folder_byte b = is_ascii_alphanumeric b || b == 95 || b == 45
 
--- a folder's name: letters, digits, `_` and `-`
-abbrev pub is_folder : List ℕ → Bool
-is_folder text = list_all is_folder_byte text
-
 -- `relay NUMBER HOST FOLDER CONF`
 abbrev pub relay_form : List (List ℕ) → LineForm
-relay_form (number ∷ host ∷ folder ∷ conf ∷ []) = if is_folder folder
+relay_form (number ∷ host ∷ folder ∷ conf ∷ []) = if list_all is_folder_byte folder
     then a_relay number host folder conf else no_form
 relay_form _ = no_form
 
@@ -79,13 +75,10 @@ form_of (word ∷ fields) = if is_comment word then nothing else named_form word
 abbrev pub line_form : List ℕ → LineForm
 line_form line = if is_utf8 line then form_of (words_of line) else no_form
 
--- a number below 2 to the 32nd, and no other
-abbrev pub below_the_limit : ℕ → Option ℕ
-below_the_limit n = if nat_lt n (2 ^ 32) then Some n else None
-
 -- the relay's number that a field spells: decimal digits, whose value is below 2 to the 32nd
 abbrev pub relay_number : List ℕ → Option ℕ
-relay_number word = option_and_then below_the_limit (number_of word)
+relay_number word = option_and_then (λ n. if nat_lt n (2 ^ 32) then Some n else None)
+    (number_of word)
 
 -- the last of five fields, of which the first is `relay`
 abbrev pub conf_field : List (List ℕ) → Option (List ℕ)

@@ -1,7 +1,8 @@
 //! The forms of a plan's lines.
 
 ghost use Rattle.std.specs.Prelude.{◌≡◌, ◌∷◌, [], map};
-ghost use Rattle.plan_lines.specs.Forms.{is_folder_byte as is_byte, is_folder as is_name, is_comment as is_remark, relay_form as relay_line, client_form as client_line, label_form as label_line, reach_form as reach_line, duty_form as duty_line, named_form as named_line, form_of as form_by, relay_number as number_by};
+ghost use Rattle.std.specs.List.{list_all};
+ghost use Rattle.plan_lines.specs.Forms.{is_folder_byte as is_byte, is_comment as is_remark, relay_form as relay_line, client_form as client_line, label_form as label_line, reach_form as reach_line, duty_form as duty_line, named_form as named_line, form_of as form_by, relay_number as number_by};
 ghost use Rattle.plan_lines.specs.Views.{form_view};
 
 use conf_values::whole_number;
@@ -161,7 +162,7 @@ fn asked_form<'w, 't>(word: &'t str) -> Form<'w, 't>
 
 // Whether the text can be a folder's name: letters, digits, `_` and `-`.
 fn is_folder(text: &str) -> bool
-    ensures { result ≡ is_name text.now }
+    ensures { result ≡ list_all is_byte text.now }
 {
     text.as_bytes().iter().all(|byte| is_folder_byte(*byte))
 }
