@@ -7,7 +7,7 @@ use Rattle.std.specs.Map.{lookup, keys_of, values_of}
 use Rattle.std.specs.Ordering.{nat_cmp}
 use Rattle.std.specs.BTreeMap.{is_at}
 use Rattle.buffer_state.specs.declared.chunk.Stage.{Stage}
-use Rattle.buffer_state.specs.declared.chunk.Stage.TheVariants.{Staged, Queued, Claimed}
+use Rattle.buffer_state.specs.declared.chunk.Stage.TheVariants.{Staged, Queued}
 
 -- A live chunk: stored entries of one tag, and what it waits for.
 pub record Chunk : Type 0 where
@@ -53,14 +53,12 @@ total_size state = sum_by (λ chunk. size chunk.entries) (values_of state.chunks
 -- whether the chunk still grows
 abbrev pub is_staged : Stage → Bool
 is_staged Staged = Bool.true
-is_staged Queued = Bool.false
-is_staged Claimed = Bool.false
+is_staged _ = Bool.false
 
 -- whether the chunk is to be claimed
 abbrev pub is_queued : Stage → Bool
-is_queued Staged = Bool.false
 is_queued Queued = Bool.true
-is_queued Claimed = Bool.false
+is_queued _ = Bool.false
 
 -- the live chunk of this serial is in this stage
 abbrev pub IsAt : Stage → State → ℕ → Type 0

@@ -123,9 +123,8 @@ oldest state = first_of (queued_rising state)
 
 -- claimed chunks are queued again
 abbrev pub unclaimed : Stage → Stage
-unclaimed Staged = Staged
-unclaimed Queued = Queued
 unclaimed Claimed = Queued
+unclaimed stage = stage
 
 -- the live chunks, claimed ones counted as queued
 abbrev pub unclaimed_chunks : List Numbered → List Numbered

@@ -7,7 +7,7 @@ use Rattle.disk_files.specs.Moments.{History, LeavesOnly, now}
 use Rattle.buffer_state.specs.State.{Chunk, State, chunk_at}
 use Rattle.buffer_state.specs.Steps.{settled, reopened}
 use Rattle.buffer_state.specs.declared.chunk.Stage.TheVariants.{Queued}
-use Rattle.chunk_journal.specs.Records.{Record, Seal, Append, Queue, Purge}
+use Rattle.chunk_journal.specs.Records.{Record, Append, Purge}
 use Rattle.journal_files.specs.Folders.{Opens}
 use Rattle.journal_files.specs.JournalLogs.{JournalLog, IsJournalLog, state_of, reopened_at}
 use Rattle.journal_files.specs.Views.{HasShortTags}
@@ -17,10 +17,9 @@ use Rattle.buffer_store.specs.Buffers.{Held, HoldsNow, with_more}
 -- A stop may lose this step: a removal at any time, an append only while some append isn't synced,
 -- and nothing else ever.
 abbrev pub MayBeLost : Bool → Record → Type 0
-MayBeLost staged (Seal next) = ⊥
 MayBeLost staged (Append serial tag entries) = staged ≡ true
-MayBeLost staged (Queue serial) = ⊥
 MayBeLost staged (Purge serial) = Unit {0}
+MayBeLost staged _ = ⊥
 
 -- each step told that isn't durable is one that a stop may lose
 abbrev pub LosesOnly : Bool → JournalLog → Type 0

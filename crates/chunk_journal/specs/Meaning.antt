@@ -3,7 +3,7 @@
 use Rattle.std.specs.Prelude.{ℕ, ◌≡◌, ◌+◌, ◌≤◌, ◌⊎◌, List, [], ◌∷◌, ◌++◌, length}
 use Rattle.std.specs.List.{flat_map}
 use Rattle.buffer_state.specs.declared.chunk.Stage.{Stage}
-use Rattle.buffer_state.specs.declared.chunk.Stage.TheVariants.{Staged, Queued, Claimed}
+use Rattle.buffer_state.specs.declared.chunk.Stage.TheVariants.{Staged, Queued}
 use Rattle.buffer_state.specs.State.{Numbered, State, size, empty, IsAt}
 use Rattle.buffer_state.specs.Steps.{CanAppend, appended, queued_last, removed, greatest_size, settled}
 use Rattle.chunk_journal.specs.Records.{Record, Seal, Append, Queue, Purge}
@@ -12,10 +12,9 @@ use Rattle.chunk_journal.specs.Journal.{IsBad, IsJournal, BeginsWith, journal_by
 -- The record tells a live chunk, behind those that were told: an Append of a serial that isn't
 -- below the next, or a Queue of the chunk told last.
 abbrev pub Tells : State → Record → Type 0
-Tells state (Seal next) = ⊥
 Tells state (Append serial tag entries) = CanAppend state serial tag entries × (state.next ≤ serial)
 Tells state (Queue serial) = IsAt Staged state serial × (serial + 1 ≡ state.next)
-Tells state (Purge serial) = ⊥
+Tells state _ = ⊥
 
 -- The record is a step that this state allows: an Append to a staged chunk of its tag or of the
 -- next serial, a Queue of a staged chunk, a Purge of a queued one.
@@ -107,8 +106,7 @@ IsAnswer bytes BadRecord = IsDamaged bytes
 -- A Queue for a chunk that is to be claimed. One that was claimed is told as queued.
 abbrev pub queueing : ℕ → Stage → List Record
 queueing serial Staged = []
-queueing serial Queued = Queue serial ∷ []
-queueing serial Claimed = Queue serial ∷ []
+queueing serial _ = Queue serial ∷ []
 
 -- the records that tell a live chunk
 abbrev pub chunk_records : Numbered → List Record

@@ -39,11 +39,6 @@ Recovers path disk t = (folder : Folder) → StopLeaves disk folder → OpensWit
 abbrev pub HasNoneFrom : List ℕ → Disk → ℕ → Type 0
 HasNoneFrom path disk number = (n : ℕ) → number ≤ n → n < 2 ^ 32 → disk (journal_name path n) ≡ None
 
--- no generation below this one reads
-abbrev pub HasNoneBelow : List ℕ → Disk → ℕ → Type 0
-HasNoneBelow path disk number = (n : ℕ) → 1 ≤ n → n < number → reads disk (journal_name path n)
-    ≡ None
-
 -- Each generation that was ever begun is at or below one that reads. (So no removed one comes back
 -- above all that are there.)
 pub record IsBelowSome (path : List ℕ) (disk : Disk) (n : ℕ) : Type 0 where

@@ -1,5 +1,5 @@
 -- What opening a journal gives, why it is refused, and the folder that it leaves.
-use Rattle.std.specs.Prelude.{ℕ, ◌≡◌, ◌≢◌, ◌⊎◌, ◌-◌, ◌<◌, ◌^◌, List, Option, IsSome}
+use Rattle.std.specs.Prelude.{ℕ, ◌≡◌, ◌≢◌, ◌⊎◌, ◌-◌, ◌<◌, ◌^◌, List, Option, IsSome, None, ◌≤◌}
 use Rattle.disk_files.specs.Disk.{Disk, SameDisk, reads}
 use Rattle.disk_files.specs.Moments.{History, LeavesOnly, now}
 use Rattle.disk_files.specs.declared.dir.FileNo.{FileNo}
@@ -8,7 +8,7 @@ use Rattle.buffer_state.specs.Steps.{settled, reopened}
 use Rattle.journal_files.specs.Folders.{journal_name, Opens, IsDamagedFolder, IsNext}
 use Rattle.journal_files.specs.JournalLogs.{JournalLog, OpensWithin, new_generation, state_of}
 use Rattle.journal_files.specs.Views.{OpenJournal, IsOpenIn, HasShortTags}
-use Rattle.journal_files.specs.Disks.{Keeps, Recovers, HasNoGap, HasNoneBelow}
+use Rattle.journal_files.specs.Disks.{Keeps, Recovers, HasNoGap}
 use Rattle.journal_files.specs.Leftovers.{ReadsAs, LeavesNext}
 use Rattle.journal_files.specs.declared.error.JournalError.{JournalError}
 use Rattle.journal_files.specs.declared.error.JournalError.TheVariants.{Fault, Damaged, LastGeneration}
@@ -20,7 +20,7 @@ pub record OpensNext (path : List ℕ) (old new : Disk) (journal : OpenJournal)
   pub means : Opens path (reads old) chunks
   pub next : IsNext path old journal.number
   pub keeps : HasNoGap path old → Keeps journal new (new_generation chunks)
-  pub alone : HasNoneBelow path new journal.number
+  pub alone : (n : ℕ) → 1 ≤ n → n < journal.number → reads new (journal_name path n) ≡ None
 
 -- A journal just opened has its file open. None of its chunks is claimed, and the queue goes by
 -- rising serial; and telling them comes to them.
