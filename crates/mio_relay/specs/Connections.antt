@@ -19,15 +19,6 @@ pub record Served : Type 0 where
   pub entry : Entry
   pub asks : Option Credentials
 
--- where the messages of this source go, in the relay with this number, whose events go so
-abbrev pub entry_of : {A : Type 0} → ℕ → Table → Source A → Entry
-entry_of number table source = record {
-  number = number;
-  table = table;
-  scope = source.label.0;
-  prefix = source.prefix;
-}
-
 -- the address of a source
 abbrev pub endpoint_of : {A : Type 0} → Source A → Endpoint
 endpoint_of source = record { host = string_bytes source.bind; port = source.port }
@@ -36,7 +27,12 @@ endpoint_of source = record { host = string_bytes source.bind; port = source.por
 abbrev pub served_as : {A : Type 0} → ℕ → Table → Source A → Served
 served_as number table source = record {
   endpoint = endpoint_of source;
-  entry = entry_of number table source;
+  entry = record {
+    number = number;
+    table = table;
+    scope = source.label.0;
+    prefix = source.prefix;
+  };
   asks = credentials_of source.security;
 }
 

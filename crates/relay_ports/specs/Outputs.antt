@@ -26,10 +26,9 @@ number_of (File settings) = settings.number.0
 
 -- an output of the configuration with all that is said of it, if it has a buffer
 abbrev pub buffered : {A : Type 0} → Output A → Option (BufferedOutput A)
-buffered (output.Null line) = None
-buffered (output.Relabel target line) = None
 buffered (output.Forward settings line) = Some (Forward settings)
 buffered (output.File settings line) = Some (File settings)
+buffered _ = None
 
 -- the same as a list
 abbrev pub listed : {A : Type 0} → Output A → List (BufferedOutput A)
@@ -79,11 +78,9 @@ HaveOwnPaths outputs = AllPairs HaveOther outputs
 -- writes these.
 abbrev pub IsBasisOf : {A B : Type 0} → BufferedOutput A → Basis B → Type 0
 IsBasisOf (Forward settings) Acknowledged = settings.require_ack_response ≡ true
-IsBasisOf (Forward settings) (Stored sink) = ⊥
 IsBasisOf (Forward settings) Written = settings.require_ack_response ≡ false
-IsBasisOf (File settings) Acknowledged = ⊥
 IsBasisOf (File settings) (Stored sink) = sink.items ≡ string_bytes settings.path
-IsBasisOf (File settings) Written = ⊥
+IsBasisOf _ _ = ⊥
 
 -- what lets the chunks of a buffer go is as its output's settings say
 pub record AreTakesOf {A B : Type 0} (found : BufferedOutput A) (takes : Takes B) : Type 0 where

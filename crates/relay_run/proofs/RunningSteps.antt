@@ -7,12 +7,15 @@ use Rattle.std.specs.Prelude.{map}
 use Rattle.std.specs.List.{All}
 use Rattle.std.specs.contracts.alloc.Global as heap
 use Rattle.loop_core.specs.declared.fault.LoopFault.{LoopFault}
-use Rattle.mio_relay.specs.Connections.{ArePortsOf}
+use Rattle.mio_relay.specs.Connections.{ArePortsOf, Served}
 use Rattle.mio_relay.specs.Loops.{BoundState}
 use Rattle.loop_core.specs.Buffers.{AreBuffersOf, ArePlaced}
 use Rattle.loop_core.specs.Folders.{path_for}
 use Rattle.loop_core.specs.Owners.{Owned}
-use Rattle.relay_run.specs.Running.{Continues, IsPoolOf, PoolEnded, PoolState, RelayState, fault_of, first_fault}
+use Rattle.relay_ports.specs.declared.buffered.BufferedOutput.{BufferedOutput}
+use Rattle.relay_ports.specs.Setups.{Setup}
+use Rattle.relay_run.specs.Loops.{Continues, IsOpened}
+use Rattle.relay_run.specs.Running.{IsPoolOf, PoolEnded, PoolState, RelayState, Runs, fault_of, first_fault}
 
 map_map : {X Y Z : Type 0} (f : X → Y) (g : Y → Z) (xs : List X) → map g (map f xs) ≡ map (λ (x : X). g (f x)) xs
 map_map f g [] = refl
@@ -20,9 +23,9 @@ map_map f g (x ∷ xs) = ap (λ r. g (f x) ∷ r) (map_map f g xs)
 
 -- a relay that listens goes on to run, with a pool for each of the jobs that it was opened with
 pub goes_on : (folder : List ℕ) (bound : BoundState heap.the_row.Denot) (relay : RelayState) (jobs : List (Owned heap.the_row.Denot))
-    → (relay.turning.sources ≡ bound.sources) × (relay.turning.bound ≡ bound.bound) → ArePortsOf bound.sources relay.ports
-    → AreBuffersOf bound.number bound.outputs relay.turning.buffers
-    → (map (λ job. job.output) jobs ≡ bound.outputs) × (map (λ job. job.terms) jobs ≡ relay.turning.buffers)
+    → (relay.sources ≡ bound.sources) × (relay.bound ≡ bound.bound) → ArePortsOf bound.sources relay.ports
+    → AreBuffersOf bound.number bound.outputs relay.buffers
+    → (map (λ job. job.output) jobs ≡ bound.outputs) × (map (λ job. job.terms) jobs ≡ relay.buffers)
     → ArePlaced (path_for folder) jobs → map (λ pool. pool.job) relay.pools ≡ jobs → All (IsPoolOf folder) relay.pools → Continues folder bound relay
 goes_on folder bound relay jobs same ports buffers own placed made pools =
     let job : PoolState → Owned heap.the_row.Denot = λ p. p.job in
@@ -35,6 +38,23 @@ goes_on folder bound relay jobs same ports buffers own placed made pools =
       shared = sym (map_map job (λ (j : Owned heap.the_row.Denot). j.terms) relay.pools) ∙ ap (map (λ (j : Owned heap.the_row.Denot). j.terms)) made ∙ own.1;
       placed = subst (ArePlaced (path_for folder)) (sym made) placed;
       pools = pools;
+    }
+
+-- a relay that listens as its setup says, and goes on so, runs as the setup says
+pub runs_as : {folder : List ℕ} {setup : Setup heap.the_row.Denot} {relay : RelayState} → IsOpened folder setup relay → Runs folder setup relay
+runs_as {folder} {setup} {relay} opened =
+    let on = opened.continues in
+    let is = opened.is in
+    record {
+      sources = on.sources ∙ is.sources;
+      listens = on.listens ∙ (is.listens ∙ ap (map (λ (s : Served). s.endpoint)) (sym on.sources));
+      ports = subst (λ (s : List Served). ArePortsOf s relay.ports) (sym on.sources) on.ports;
+      buffers = subst (λ (n : ℕ). AreBuffersOf n setup.outputs relay.buffers) is.number
+          (subst (λ (os : List (BufferedOutput heap.the_row.Denot)). AreBuffersOf opened.bound.number os relay.buffers) is.outputs on.buffers);
+      outputs = on.outputs ∙ is.outputs;
+      shared = on.shared;
+      placed = on.placed;
+      pools = on.pools;
     }
 
 -- a fault counts before that of the next pool

@@ -5,6 +5,7 @@ use Rattle.buffer_store.specs.declared.fault.BufferFault.{BufferFault}
 use Rattle.buffer_store.specs.declared.fault.BufferFault.TheVariants as store
 use Rattle.ack_receipt.specs.Claims.{Claimed}
 use Rattle.ack_receipt.specs.Evidences.{Shows}
+use Rattle.ack_receipt.specs.Terms.{Terms}
 use Rattle.flush_pool.specs.declared.gate.OpenGate.{OpenGate}
 use Rattle.flush_pool.specs.Acts.{at}
 use Rattle.flush_pool.specs.Carriages.{IsStoredFor}
@@ -19,11 +20,10 @@ use Rattle.relay_ports.specs.Setups.{Setup}
 use Rattle.loop_core.specs.Buffers.{AreBuffersOf, ArePlaced}
 use Rattle.loop_core.specs.Folders.{path_for}
 use Rattle.loop_core.specs.Owners.{Owned}
-use Rattle.relay_sockets.specs.Endpoints.{Origin}
+use Rattle.relay_sockets.specs.Endpoints.{Endpoint, Origin}
 use Rattle.relay_sockets.specs.Traffics.{Traffic}
 use Rattle.tcp_courier.specs.Carrying.{IsSent, sender_of}
-use Rattle.mio_relay.specs.Connections.{ArePortsOf, served_as}
-use Rattle.mio_relay.specs.Loops.{BoundState, LoopState}
+use Rattle.mio_relay.specs.Connections.{ArePortsOf, Served, served_as}
 use Rattle.relay_run.specs.declared.flush.Carrier.{Carrier}
 use Rattle.relay_run.specs.declared.flush.Carrier.TheVariants.{Servers, Sink}
 
@@ -32,20 +32,15 @@ pub record PoolState : Type 0 where
   pub job : Owned heap.the_row.Denot
   pub carrier : Carrier
 
--- this carries to the sink that was opened by this name, in the folder that was made for it, which
--- is that of the system with this path
-abbrev pub IsSinkAt : (folder name : List ℕ) → Carrier → Type 0
-IsSinkAt folder name (Servers sender) = ⊥
-IsSinkAt folder name (Sink courier placed) = (courier.path ≡ name)
-    × (courier.folder ≡ placed.value.dir)
-    × (option_map string_bytes placed.value.path ≡ Some folder)
-
--- the output's chunks are carried by a courier to its servers, as its settings say, or to the sink
--- of its path, in this folder
+-- The output's chunks are carried by a courier to its servers, as its settings say; or to the sink
+-- that was opened by the name of its path, in the folder that was made for it, which is that of the
+-- system with this path.
 abbrev pub IsCarrierOf : {A : Type 0} → (folder : List ℕ) → BufferedOutput A → Carrier → Type 0
 IsCarrierOf folder (Forward settings) (Servers sender) = sender ≡ sender_of settings sender.dialer
-IsCarrierOf folder (Forward settings) (Sink courier placed) = ⊥
-IsCarrierOf folder (File settings) carrier = IsSinkAt folder (string_bytes settings.path) carrier
+IsCarrierOf folder (File settings) (Sink courier placed) =
+    (courier.path ≡ string_bytes settings.path) × (courier.folder ≡ placed.value.dir)
+    × (option_map string_bytes placed.value.path ≡ Some folder)
+IsCarrierOf folder _ _ = ⊥
 
 -- This delivers the chunks of an output as the output's settings say, to files in this folder.
 abbrev pub IsPoolOf : (folder : List ℕ) → PoolState → Type 0
@@ -59,10 +54,12 @@ abbrev pub IsCarriedBy : {S : Type 0} → (origin : S → Origin) → (traffic :
 IsCarriedBy origin traffic (Servers sender) claim shown = IsSent origin traffic sender claim shown
 IsCarriedBy origin traffic (Sink courier placed) claim shown = IsStoredFor claim shown
 
--- a relay that runs: its loop, the ports of its sources, and what delivers the chunks of its
--- outputs
+-- a relay that runs: its sources, the addresses at which its loop listens, the buffers that its loop
+-- has, the ports of its sources, and what delivers the chunks of its outputs
 pub record RelayState : Type 0 where
-  pub turning : LoopState heap.the_row.Denot
+  pub sources : List Served
+  pub bound : List Endpoint
+  pub buffers : List (Terms heap.the_row.Denot)
   pub ports : List ℕ
   pub pools : List PoolState
 
@@ -97,49 +94,16 @@ first_fault (Some fault) pools = Some fault
 first_fault None [] = None
 first_fault None (pool ∷ pools) = first_fault (fault_of pool.done) pools
 
--- a relay that ran: its loop, its ports, the fault that the loop ended with, and how its pools
--- ended
-pub record RelayEnded : Type 0 where
-  pub turning : LoopState heap.the_row.Denot
-  pub ports : List ℕ
-  pub fault : Option LoopFault
-  pub pools : List PoolEnded
-
--- what ran
-abbrev pub relay_of : RelayEnded → RelayState
-relay_of ended = record {
-  turning = ended.turning;
-  ports = ended.ports;
-  pools = map (λ end. end.pool) ended.pools;
-}
-
--- A relay that listens goes on to run, with its files in this folder. It takes messages in at the
--- same sources and addresses, it has a buffer for each of its outputs, and each output has what
--- delivers its chunks, from the very buffer that the loop has for it.
-pub record Continues (folder : List ℕ) (bound : BoundState heap.the_row.Denot)
-    (relay : RelayState) : Type 0 where
-  pub sources : relay.turning.sources ≡ bound.sources
-  pub listens : relay.turning.bound ≡ bound.bound
-  pub ports : ArePortsOf bound.sources relay.ports
-  pub buffers : AreBuffersOf bound.number bound.outputs relay.turning.buffers
-  pub outputs : map (λ pool. pool.job.output) relay.pools ≡ bound.outputs
-  pub shared : map (λ pool. pool.job.terms) relay.pools ≡ relay.turning.buffers
-  pub placed : ArePlaced (path_for folder) (map (λ pool. pool.job) relay.pools)
-  pub pools : All (IsPoolOf folder) relay.pools
-
--- A relay listens at the address of each source of this setup, and nowhere else, and has its number
--- and its outputs.
-pub record IsBoundAs (setup : Setup heap.the_row.Denot)
-    (bound : BoundState heap.the_row.Denot) : Type 0 where
-  pub sources : bound.sources ≡ map (served_as setup.number setup.table) setup.sources
-  pub listens : bound.bound ≡ map (λ source. source.endpoint) bound.sources
-  pub number : bound.number ≡ setup.number
-  pub outputs : bound.outputs ≡ setup.outputs
-
--- What runs is this relay, whole, with its files in this folder: it listened as its setup says, and
--- went on so.
+-- What runs is this relay, whole, with its files in this folder. It takes messages in at the address
+-- of each source of this setup, and nowhere else; it has a buffer for each of the setup's outputs, and
+-- each output has what delivers its chunks, from the very buffer that the loop has for it.
 pub record Runs (folder : List ℕ) (setup : Setup heap.the_row.Denot)
     (relay : RelayState) : Type 0 where
-  pub bound : BoundState heap.the_row.Denot
-  pub is : IsBoundAs setup bound
-  pub continues : Continues folder bound relay
+  pub sources : relay.sources ≡ map (served_as setup.number setup.table) setup.sources
+  pub listens : relay.bound ≡ map (λ source. source.endpoint) relay.sources
+  pub ports : ArePortsOf relay.sources relay.ports
+  pub buffers : AreBuffersOf setup.number setup.outputs relay.buffers
+  pub outputs : map (λ pool. pool.job.output) relay.pools ≡ setup.outputs
+  pub shared : map (λ pool. pool.job.terms) relay.pools ≡ relay.buffers
+  pub placed : ArePlaced (path_for folder) (map (λ pool. pool.job) relay.pools)
+  pub pools : All (IsPoolOf folder) relay.pools

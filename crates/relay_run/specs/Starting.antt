@@ -1,5 +1,6 @@
 -- What a relay is started with, and what it prints.
-use Rattle.std.specs.Prelude.{◌⊎◌, ◌≡◌, ℕ, List, [], ◌++◌, codes, decimal, Option, Some, None}
+use Rattle.std.specs.Prelude.{◌⊎◌, ◌≡◌, ℕ, List, [], ◌++◌, codes, decimal, Option, Some, map}
+use Rattle.std.specs.Option.{option_map_or}
 use Rattle.std.specs.List.{flat_map}
 use Rattle.std.specs.contracts.alloc.Global as heap
 use Rattle.loop_core.specs.declared.fault.LoopFault.{LoopFault}
@@ -11,15 +12,11 @@ use Rattle.program_text.specs.Output.{TakesPart, IsPrinted}
 use Rattle.relay_conf.specs.declared.relay.Relay.{Relay}
 use Rattle.relay_ports.specs.Setups.{Setup, setup_of}
 use Rattle.program_text.specs.Stops.{IsRelayRead, PrintsNoRelay}
-use Rattle.relay_run.specs.Running.{RelayEnded, RelayState, Runs, first_fault, relay_of}
-
--- a source takes connections at this port
-abbrev pub ready_line : ℕ → List ℕ
-ready_line port = line (codes "ready " ++ decimal port)
+use Rattle.relay_run.specs.Running.{PoolEnded, RelayState, Runs, first_fault}
 
 -- all sources do, in the order of the configuration
 abbrev pub ready_lines : List ℕ → List ℕ
-ready_lines ports = flat_map ready_line ports
+ready_lines ports = flat_map (λ port. line (codes "ready " ++ decimal port)) ports
 
 -- why a relay ended
 abbrev pub fault_line : LoopFault → List ℕ
@@ -30,26 +27,17 @@ fault_line (ends.Buffer _) = line (codes "fault Buffer")
 fault_line ends.NoNumber = line (codes "fault NoNumber")
 fault_line ends.Memory = memory_line
 
--- the same, where it ended by a fault
-abbrev pub end_line : Option LoopFault → List ℕ
-end_line (Some fault) = fault_line fault
-end_line None = []
-
--- the status of a relay that ended
-abbrev pub end_status : Option LoopFault → Status
-end_status (Some fault) = Usage
-end_status None = Done
-
 -- A beginning of the lines of the sources at these ports is printed, or all of them.
 pub record PrintsReady (ports : List ℕ) (old new : Option (List ℕ)) : Type 0 where
   pub unseen : List ℕ
   pub takes : TakesPart old new (ready_lines ports) unseen
 
--- why a relay that was open ended: it ran to the fault of its loop, or else the first of a pool's,
--- if there is one; or there was no memory to run it
+-- why a relay that was open ended: its pools ran, to the fault of its loop, or else the first of
+-- theirs, if there is one; or there was no memory to run it
 abbrev pub EndsBy : RelayState → Option LoopFault → Type 0
-EndsBy relay ended = ((ran : RelayEnded) × (relay_of ran ≡ relay)
-    × (ended ≡ first_fault ran.fault ran.pools)) ⊎ (ended ≡ Some ends.Memory)
+EndsBy relay ended = ((fault : Option LoopFault) × (pools : List PoolEnded)
+    × (map (λ end. end.pool) pools ≡ relay.pools) × (ended ≡ first_fault fault pools))
+    ⊎ (ended ≡ Some ends.Memory)
 
 -- A relay that was open ended so: its own sources were printed, and behind these why it ended.
 pub record PrintsEnd (relay : RelayState) (old new : Option (List ℕ))
@@ -58,7 +46,8 @@ pub record PrintsEnd (relay : RelayState) (old new : Option (List ℕ))
   pub ready : PrintsReady relay.ports old between
   pub ended : Option LoopFault
   pub by : EndsBy relay ended
-  pub printed : IsPrinted between new (end_line ended) (end_status ended) status
+  pub printed : IsPrinted between new (option_map_or fault_line ended [])
+      (option_map_or (λ _. Usage) ended Done) status
 
 -- The relay of this setup was opened with its files in this folder, and ended so.
 pub record PrintsOpened (folder : List ℕ) (setup : Setup heap.the_row.Denot)

@@ -1,7 +1,7 @@
 //! The threads that deliver a relay's chunks.
 
 ghost use Rattle.std.specs.Prelude.{◌≡◌, IfErr, IfOk};
-ghost use Rattle.relay_run.specs.Running.{IsCarrierOf, IsPoolOf, IsSinkAt, fault_of as fault_of_done};
+ghost use Rattle.relay_run.specs.Running.{IsCarrierOf, IsPoolOf, fault_of as fault_of_done};
 
 use crate::flush_threads::FlushThreads;
 use crate::voice::Voice;
@@ -10,6 +10,7 @@ use buffer_store::BufferFault;
 use disk_files::{Dir, RealDir};
 use flush_pool::{CarryFault, ClaimView, Courier, SinkCourier, Worked};
 use loop_core::{DeliveryJob, LoopFault, PlacedDir, SystemDir, real_dir};
+use relay_conf::FileSettings;
 use relay_notices::{Notice, Teller};
 use relay_ports::BufferedOutput;
 use relay_sockets::{Dialer, Nonces, SystemDialer, Wire, now_after};
@@ -210,7 +211,7 @@ fn carrier_of<R: RandomSource + Wait>(
             let courier = TcpCourier::new(alloc, settings, nonces, theirs, dialer)?;
             Ok(Carrier::Servers(courier.telling(teller)))
         }
-        BufferedOutput::File(settings) => sink_of(rt, home, settings.path.as_str(), teller),
+        BufferedOutput::File(settings) => sink_of(rt, home, settings, teller),
     }
 }
 
@@ -224,21 +225,21 @@ pub fn copy_of<R: Clone>(rt: &R) -> Result<R, LoopFault>
     }
 }
 
-// What carries chunks to the sink of this name, which is opened in this folder.
+// What carries chunks to the sink of these settings, which is opened in this folder.
 fn sink_of<R: Wait>(
     rt: &R,
     home: Home<'_>,
-    name: &str,
+    settings: &FileSettings<Global>,
     teller: Teller<Global>,
 ) -> Result<Carrier, LoopFault>
-    ensures { IfOk result (IsSinkAt home.entry.path.now name.now) }
+    ensures { IfOk result (IsCarrierOf home.entry.path.now (BufferedOutput.File settings.now)) }
 {
     let alloc = home.files.alloc();
     let made = real_dir(copy_of(home.files)?, alloc, home.path)?;
     let placed = Snapshot::of(&made);
     let PlacedDir { dir, path: _ } = made;
     let time = now_after(home.files, 0);
-    match Rotation::open(alloc, dir, name.as_bytes(), FILE_LIMITS, time) {
+    match Rotation::open(alloc, dir, settings.path.as_bytes(), FILE_LIMITS, time) {
         Ok(sink) => Ok(Carrier::Sink {
             courier: SinkCourier::new(sink).telling(teller),
             placed,

@@ -4,7 +4,7 @@
 ghost use Rattle.std.specs.Prelude.{◌≡◌, ◌≢◌, [], None, IfOk, IfSome, IfNone};
 ghost use Rattle.plan_lines.specs.Forms.{relay_number};
 ghost use Rattle.relay_ports.specs.Setups.{setup_of};
-ghost use Rattle.relay_run.specs.Running.{Runs};
+ghost use Rattle.relay_run.specs.Loops.{IsOpened, relay_of};
 ghost use Rattle.relay_run.specs.Starting.{fault_line as fault_line_of, EndsBy, PrintsEnd, PrintsReady, PrintsRelay, PrintsRun};
 
 use crate::flush::{Home, copy_of};
@@ -157,7 +157,8 @@ where
         number: u32,
         voice: &Voice,
     ) -> Result<Running<R>, LoopFault>
-        ensures { IfOk result (Runs self.now (setup_of number relay)) }
+        ensures { IfOk result
+            (λ running. IsOpened self.now (setup_of number relay) (relay_of running)) }
     {
         let alloc = self.rt.alloc();
         let setup = RelaySetup::new(alloc, relay, number)?;
@@ -168,7 +169,7 @@ where
     // Runs a relay that is open until a fault, and prints its sources, and why it ended.
     #[tactic(auto, using(crate::proofs::StartingSteps::ended_by))]
     fn run_open<W: Write>(&self, running: Running<R>, voice: &Voice, out: &mut W) -> Status
-        ensures { PrintsEnd running (W.contents out.old) (W.contents out.new) result }
+        ensures { PrintsEnd (relay_of running) (W.contents out.old) (W.contents out.new) result }
     {
         put_ready(&running, out);
         match self.run_to_end(running, voice) {
@@ -182,7 +183,7 @@ where
 
     // Runs a relay that is open until a fault, and says which.
     fn run_to_end(&self, running: Running<R>, voice: &Voice) -> Option<LoopFault>
-        ensures { EndsBy running result }
+        ensures { EndsBy (relay_of running) result }
     {
         match running.run(self.rt, voice) {
             Ok(ran) => {

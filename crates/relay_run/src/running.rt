@@ -1,7 +1,8 @@
 //! A relay that runs: its loop, and for each output the threads that deliver its chunks.
 
 ghost use Rattle.std.specs.Prelude.{◌≡◌, ◌++◌, All, IfErr, IfOk, OnOk, map};
-ghost use Rattle.relay_run.specs.Running.{Continues, IsPoolOf, first_fault, relay_of};
+ghost use Rattle.relay_run.specs.Loops.{Continues, relay_of, started_as};
+ghost use Rattle.relay_run.specs.Running.{IsPoolOf, first_fault};
 ghost use Rattle.relay_run.specs.Starting.{ready_lines};
 
 use crate::flush::{Folder, Home, Pool, PoolEnd, copy_of};
@@ -40,10 +41,10 @@ pub struct Running<R: Net + Clock + Clone + Drop> {
 
 impl<R: Net + Clock + Clone + Drop> Model for Running<R> {
     ghost use Rattle.std.specs.Prelude.{◌≡◌};
-    ghost use Rattle.relay_run.specs.Running.{RelayState};
+    ghost use Rattle.relay_run.specs.Loops.{RunningState};
     ghost use Rattle.relay_run.specs.Starting.{ready_lines};
 
-    ghost Value = { RelayState };
+    ghost Value = { RunningState };
 
     ghost view = { λ r. record { turning = r.turning; ports = r.ports; pools = r.pools.items } };
 
@@ -69,9 +70,9 @@ pub struct Ran<R: Net + Clock + Clone + Drop> {
 }
 
 impl<R: Net + Clock + Clone + Drop> Model for Ran<R> {
-    ghost use Rattle.relay_run.specs.Running.{RelayEnded};
+    ghost use Rattle.relay_run.specs.Loops.{RanState};
 
-    ghost Value = { RelayEnded };
+    ghost Value = { RanState };
 
     ghost view = { λ r. record {
       turning = r.turned.value;
@@ -157,7 +158,8 @@ where
         bound: BoundRelay<SocketNetwork<R, Global>, Global>,
         voice: &Voice,
     ) -> Result<Self, LoopFault>
-        ensures { IfOk result (Continues home.entry.path.now bound) }
+        ensures { IfOk result
+            (λ running. Continues home.entry.path.now bound (relay_of running)) }
     {
         let OwnFolder { files, held, stop } = OwnFolder::take(rt.alloc(), home)?;
         let folders = SystemFolders {
@@ -189,7 +191,7 @@ where
     /// Runs the loop and the pools until one of them has a fault. `Memory`: there is none for a
     /// thread.
     pub fn run(self, rt: &R, voice: &Voice) -> Result<Ran<R>, LoopFault>
-        ensures ran { IfOk result (λ ran. relay_of ran ≡ self) }
+        ensures ran { IfOk result (λ ran. started_as ran ≡ self) }
         ensures full { IfErr result (λ fault. fault ≡ LoopFault.Memory) }
     {
         let Running {

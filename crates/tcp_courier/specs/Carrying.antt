@@ -23,10 +23,6 @@ pub record Sender (N : Type 0) : Type 0 where
 abbrev pub endpoint_of : {A : Type 0} → Server A → Endpoint
 endpoint_of server = record { host = string_bytes server.host; port = server.port }
 
--- so many seconds, in milliseconds
-abbrev pub milliseconds : ℕ → ℕ
-milliseconds seconds = min (seconds * 1_000) (2 ^ 64 - 1)
-
 -- the courier of an output with these settings, that connects by this dialer
 abbrev pub sender_of : {A N : Type 0} → ForwardSettings A → (dialer : N) → Sender N
 sender_of settings dialer = record {
@@ -34,7 +30,7 @@ sender_of settings dialer = record {
   servers = map endpoint_of settings.servers.items;
   shows = credentials_of settings.security;
   asks = settings.require_ack_response;
-  timeout = milliseconds settings.ack_response_timeout;
+  timeout = min (settings.ack_response_timeout * 1_000) (2 ^ 64 - 1);
 }
 
 -- the connection went to one of these servers: to the host and the port of the same one
