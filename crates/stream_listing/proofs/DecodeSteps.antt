@@ -13,7 +13,7 @@ use Rattle.stream_listing.specs.declared.decode.Stop.{Stop}
 use Rattle.stream_listing.specs.declared.decode.Stop.TheVariants.{Hex, Stream, Memory, Read}
 use Rattle.stream_listing.specs.HexText.{digits_of, AreDigitsUpTo}
 use Rattle.program_text.specs.Lines.{memory_line, read_line}
-use Rattle.stream_listing.specs.Listing.{arrival_lines, lines_of, Ending, Rest, Fault, BadHex, ending_lines, ReadsOn, IsPending, status_of, Holds, IsListed, PrintsListing}
+use Rattle.stream_listing.specs.Listing.{arrival_lines, lines_of, ReadsOn, IsPending, Ends, at_end, at_fault, at_bad_hex, IsCut, IsListingBy, IsListing, PrintsListing}
 use Rattle.event_modes.specs.Feeding.{Feeding}
 use Rattle.program_text.specs.Output.{TakesPart, IsPrinted}
 use Rattle.stream_listing.specs.Decoding.{Lists, StopsAt, IsLast, IsLastAtEnd, PrintsLast}
@@ -104,41 +104,37 @@ printed_behind o0 o1 o2 lines last meant status written prints = (
 
 -- ---- what all of it makes
 
--- why nothing more is read, in the lines of a whole listing or of one that is cut short
+-- a whole listing, or one that is cut short
+abbrev IsListed : List ℕ → Status → List ℕ → Type 0
+IsListed text meant lines = IsListing text meant lines ⊎ IsListingBy IsCut text meant lines
+
 cut_listed : (text left held last : List ℕ) (arrivals : List Arrival) (meant : Status) → ReadsOn [] [] (digits_of text) arrivals left held
     → (last ≡ memory_line) ⊎ (last ≡ read_line) → meant ≡ Usage → IsListed text meant (lines_of arrivals ++ last)
-cut_listed text left held last arrivals meant reads is_last is_status = inr (record {
+cut_listed text left held last arrivals meant reads is_last is_status =
+    inr (record { arrivals = arrivals; left = left; held = held; reads = reads; last = last; ends = (is_last, is_status); lines_are = refl })
+
+whole_listed : {said : List ℕ} {status : Status} (text left held last : List ℕ) (arrivals : List Arrival) (meant : Status) → ReadsOn [] [] (digits_of text) arrivals left held
+    → Ends left held said status → last ≡ said → meant ≡ status → IsListed text meant (lines_of arrivals ++ last)
+whole_listed text left held last arrivals meant reads ends is_last is_status = inl (record {
   arrivals = arrivals;
   left = left;
   held = held;
   reads = reads;
   last = last;
-  is_last = is_last;
+  ends = subst (λ l. Ends left held l meant) (sym is_last) (subst (Ends left held _) (sym is_status) ends);
   lines_are = refl;
-  is_status = is_status;
-})
-
-whole_listed : (text last : List ℕ) (arrivals : List Arrival) (ending : Ending) (meant : Status) → Holds text arrivals ending → last ≡ ending_lines ending
-    → meant ≡ status_of ending → IsListed text meant (lines_of arrivals ++ last)
-whole_listed text last arrivals ending meant holds is_last is_status = inl (record {
-  arrivals = arrivals;
-  ending = ending;
-  holds = holds;
-  lines = ap (λ l. lines_of arrivals ++ l) is_last;
-  is_status = is_status;
 })
 
 -- nothing more is read: the text is what was read and what was not
 stop_listed : (text more left held last : List ℕ) (arrivals : List Arrival) (stop : Stop) (meant : Status) → ReadsOn [] [] (digits_of text) arrivals left held
     → StopsAt stop left held → IsLast stop last meant → IsListed (text ++ more) meant (lines_of arrivals ++ last)
 stop_listed text more left held last arrivals Hex meant h at is_last =
-    let reads = reads_front text more left held arrivals h in
-    whole_listed (text ++ more) last arrivals BadHex meant (record { left = left ++ digits_of more; held = held; reads = reads; ends = (at.0 (digits_of more), at.1) }) is_last.0 is_last.1
+    whole_listed (text ++ more) (left ++ digits_of more) held last arrivals meant (reads_front text more left held arrivals h)
+    (at_bad_hex (at.0 (digits_of more)) at.1) is_last.0 is_last.1
 stop_listed text more left held last arrivals (Stream fault) meant h at is_last =
     let reads = reads_front text more left held arrivals h in
     elim is_last [
-      | inl whole ↦
-          whole_listed (text ++ more) last arrivals (Fault fault) meant (record { left = left ++ digits_of more; held = held; reads = reads; ends = at }) whole.0 whole.1
+      | inl whole ↦ whole_listed (text ++ more) (left ++ digits_of more) held last arrivals meant reads (at_fault fault at) whole.0 whole.1
       | inr memory ↦ cut_listed (text ++ more) (left ++ digits_of more) held last arrivals meant reads (inl memory.0) memory.1
     ]
 stop_listed text more left held last arrivals Memory meant h at is_last =
@@ -151,10 +147,9 @@ end_listed : (text hex held last : List ℕ) (arrivals : List Arrival) (meant : 
     → IsLastAtEnd hex held last meant → IsListed text meant (lines_of arrivals ++ last)
 end_listed text hex held last arrivals meant h pending at =
     elim at [
-      | inl whole ↦
-          whole_listed text last arrivals (Rest (length held)) meant (record { left = hex; held = held; reads = h; ends = (whole.0, pending, refl) }) whole.1 whole.2
+      | inl whole ↦ whole_listed text hex held last arrivals meant h (at_end whole.0 pending) whole.1 whole.2
       | inr other ↦ elim other [
-        | inl broken ↦ whole_listed text last arrivals BadHex meant (record { left = hex; held = held; reads = h; ends = (broken.0, pending) }) broken.1 broken.2
+        | inl broken ↦ whole_listed text hex held last arrivals meant h (at_bad_hex broken.0 pending) broken.1 broken.2
         | inr memory ↦ cut_listed text hex held last arrivals meant h (inl memory.0) memory.1
       ]
     ]

@@ -1,15 +1,16 @@
 -- The steps of a decoder, between two pieces of its text.
-use Rattle.std.specs.Prelude.{◌≡◌, ◌⊎◌, ℕ, List, [], ◌++◌, length, Option, None, Result, MatchResult}
+use Rattle.std.specs.Prelude.{◌≡◌, ◌⊎◌, ℕ, List, [], ◌++◌, codes, decimal, length, Option, None, Result, MatchResult, cond, ◌==◌}
 use Rattle.event_modes.specs.Stream.{Arrival}
 use Rattle.event_modes.specs.Faults.{StreamFault}
 use Rattle.event_modes.specs.Feeding.{Feeding}
+use Rattle.event_modes.specs.Printed.{code_of}
 use Rattle.program_text.specs.declared.status.Status.{Status}
 use Rattle.program_text.specs.declared.status.Status.TheVariants.{Done, No, Usage}
 use Rattle.stream_listing.specs.declared.decode.Stop.{Stop}
 use Rattle.stream_listing.specs.declared.decode.Stop.TheVariants.{Hex, Stream, Memory, Read}
 use Rattle.stream_listing.specs.HexText.{digits_of, IsBroken}
-use Rattle.program_text.specs.Lines.{memory_line, read_line}
-use Rattle.stream_listing.specs.Listing.{lines_of, Rest, Fault, BadHex, ending_lines, ReadsOn, IsPending}
+use Rattle.program_text.specs.Lines.{line, memory_line, read_line}
+use Rattle.stream_listing.specs.Listing.{lines_of, ReadsOn, IsPending}
 use Rattle.program_text.specs.Output.{IsPrinted}
 
 -- what is left over is what the decoder holds back
@@ -39,8 +40,9 @@ pub record Lists (hex : List ℕ) (feed : Feeding) (piece lines : List ℕ)
 -- the last line after a stop, and the status that it means; where there is no memory for a fault's
 -- line, that is said
 abbrev pub IsLast : Stop → List ℕ → Status → Type 0
-IsLast Hex last meant = (last ≡ ending_lines BadHex) × (meant ≡ Usage)
-IsLast (Stream fault) last meant = ((last ≡ ending_lines (Fault fault)) × (meant ≡ No))
+IsLast Hex last meant = (last ≡ line (codes "fault hex")) × (meant ≡ Usage)
+IsLast (Stream fault) last meant =
+    ((last ≡ line (codes "fault " ++ code_of fault)) × (meant ≡ No))
     ⊎ ((last ≡ memory_line) × (meant ≡ Usage))
 IsLast Memory last meant = (last ≡ memory_line) × (meant ≡ Usage)
 IsLast Read last meant = (last ≡ read_line) × (meant ≡ Usage)
@@ -48,8 +50,10 @@ IsLast Read last meant = (last ≡ read_line) × (meant ≡ Usage)
 -- the last line at the end of the text, and the status that it means
 abbrev pub IsLastAtEnd : List ℕ → List ℕ → List ℕ → Status → Type 0
 IsLastAtEnd hex held last meant =
-    ((hex ≡ []) × (last ≡ ending_lines (Rest (length held))) × (meant ≡ Done))
-    ⊎ ((IsBroken hex × (last ≡ ending_lines BadHex) × (meant ≡ Usage))
+    ((hex ≡ [])
+    × (last ≡ cond (length held == 0) [] (line (codes "rest " ++ decimal (length held))))
+    × (meant ≡ Done))
+    ⊎ ((IsBroken hex × (last ≡ line (codes "fault hex")) × (meant ≡ Usage))
     ⊎ ((last ≡ memory_line) × (meant ≡ Usage)))
 
 -- a last line of this kind is printed

@@ -10,11 +10,9 @@ digits_of text = filter (λ c. not (is_ascii_whitespace c)) text
 -- the digits spell the bytes: two digits, of either case, for each
 abbrev pub AreDigitsOf : List ℕ → List ℕ → Type 0
 AreDigitsOf [] [] = Unit {0}
-AreDigitsOf [] (byte ∷ bytes) = ⊥
-AreDigitsOf (digit ∷ []) bytes = ⊥
-AreDigitsOf (high ∷ low ∷ digits) [] = ⊥
 AreDigitsOf (high ∷ low ∷ digits) (byte ∷ bytes) = (decode_of (high ∷ low ∷ []) ≡ Ok (byte ∷ []))
     × AreDigitsOf digits bytes
+AreDigitsOf _ _ = ⊥
 
 -- the digits spell the bytes, as far as what is left over
 pub record AreDigitsUpTo (digits bytes left : List ℕ) : Type 0 where

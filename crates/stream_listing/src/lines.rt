@@ -5,7 +5,7 @@ ghost use Rattle.hex.specs.Hex.{encode_lower};
 ghost use Rattle.event_modes.specs.Reading.{meaning};
 ghost use Rattle.event_modes.specs.Stream.{Sent};
 ghost use Rattle.program_text.specs.Lines.{line};
-ghost use Rattle.stream_listing.specs.Listing.{message_line, entry_line, answer_lines, arrival_lines, ending_lines, Rest, KeepsFront};
+ghost use Rattle.stream_listing.specs.Listing.{message_line, entry_line, answer_lines, arrival_lines, KeepsFront};
 
 use event_modes::{Message, put_ack};
 use program_text::put_hex;
