@@ -1,25 +1,19 @@
 -- From what is read and written to what `check` and `replay` print.
 use Rattle.std.proofs.Common.{◌≡◌, ◌<◌, ◌⊎◌, ℕ, List, [], ◌++◌, length, refl, sym, ap, ◌∙◌, subst, inl, inr, append_assoc, append-nil}
 use Rattle.std.specs.Prelude.{Option}
-use Rattle.std.specs.Borrow.{Bor}
-use Rattle.std.specs.List.{AllZip}
 use Rattle.std.proofs.KnownBytes.{Appends-trans}
 use Rattle.loss_rules.specs.Breaks.{Subject}
 use Rattle.loss_rules.specs.declared.answer.Answer.{Answer}
-use Rattle.plan_lines.proofs.LinesRead.{bytes_of}
-pub use Rattle.plan_lines.proofs.LinesRead.{bytes_of as bytes}
-use Rattle.plan_lines.specs.Forms.{confs_named}
-use Rattle.plan_lines.specs.declared.error.PlanError.{PlanError}
-use Rattle.plan_answers.specs.declared.network.Stop.{Stop}
-use Rattle.plan_answers.specs.declared.network.Stop.TheVariants as stop
+use Rattle.program_text.specs.declared.plan_text.PlanStop.{PlanStop}
+use Rattle.program_text.specs.declared.plan_text.PlanStop.TheVariants as stop
 use Rattle.program_text.specs.declared.reading.ReadFault.{ReadFault}
 use Rattle.program_text.specs.declared.reading.ReadFault.TheVariants as unread
 use Rattle.program_text.specs.declared.status.Status.{Status}
 use Rattle.program_text.specs.declared.status.Status.TheVariants.{Usage}
-use Rattle.plan_answers.specs.Networks.{AreRead, IsAnswered, IsRefusedPlan, StopsWith, IsFaultLine, IsStopLine, IsStopOf, SaysStop, PrintsStop, unread_line, PrintsCheck, PrintsReplay, AreReplayed, answer_line, answer_status, joined_status}
+use Rattle.program_text.specs.Plans.{IsPlanStop, SaysPlanStop, PrintsPlanStop, unread_line}
+use Rattle.plan_answers.specs.Networks.{IsAnswered, IsFaultLine, IsStopLine, PrintsCheck, PrintsReplay, AreReplayed, answer_line, answer_status, joined_status}
 use Rattle.plan_answers.specs.Networks.{says_answer, says_fault, says_stop, lists_steps, lists_no_steps, lists_fault, lists_stop, prints_lines, ends_at_answer}
 use Rattle.program_text.specs.Output.{TakesPart, IsPrinted}
-use Rattle.program_text.specs.Texts.{IsTextOf}
 
 -- the answer's line is printed
 pub answered_check : (A : Type 0) (net : Option (List ℕ)) (named : List ℕ → Option (List ℕ)) (old new : Option (List ℕ)) (plan : Subject A) (found : Answer) (lines : List ℕ) (status : Status)
@@ -31,30 +25,16 @@ answered_check A net named old new plan found lines status answered is printed =
   printed = printed;
 }
 
--- the texts were read by the names in the plan's text
-pub are_read : (net : Option (List ℕ)) (named : List ℕ → Option (List ℕ)) (text : List ℕ) (names : List (Bor (List ℕ))) (confs : List (List ℕ))
-    → IsTextOf net text → bytes_of names ≡ confs_named text → AllZip (λ name conf. IsTextOf (named name) conf) (bytes_of names) confs → AreRead net named text confs
-are_read net named text names confs net_is is zip = record {
-  net_is = net_is;
-  confs_are = subst (λ (n : List (List ℕ)). AllZip (λ name conf. IsTextOf (named name) conf) n confs) is zip;
-}
-
--- a plan that is refused stops with its fault
-pub refused_stop : (A : Type 0) (net : Option (List ℕ)) (named : List ℕ → Option (List ℕ)) (fault : PlanError) (stopped : Stop)
-    → IsRefusedPlan A net named fault → StopsWith fault stopped → IsStopOf A net named stopped
-refused_stop A net named fault (stop.Plan other) refused is = (subst (IsRefusedPlan A net named) (sym is.0) refused, λ e. is.1 (sym is.0 ∙ e))
-refused_stop A net named fault (stop.Unread cause) refused is = tt
-
 -- what stops is printed in place of an answer
-pub stop_said : (A : Type 0) (net : Option (List ℕ)) (named : List ℕ → Option (List ℕ)) (stopped : Stop) (lines : List ℕ) → IsStopOf A net named stopped → SaysStop stopped lines
+pub stop_said : (A : Type 0) (net : Option (List ℕ)) (named : List ℕ → Option (List ℕ)) (stopped : PlanStop) (lines : List ℕ) → IsPlanStop A net named stopped → SaysPlanStop stopped lines
     → IsFaultLine A net named lines Usage ⊎ IsStopLine lines Usage
 stop_said A net named (stop.Plan fault) lines of (inl is) = inl (record { fault = fault; refused = of.0; named_fault = of.1; lines_are = is; is_status = refl })
 stop_said A net named (stop.Plan fault) lines of (inr is) = inr (record { lines_are = inl is; is_status = refl })
 stop_said A net named (stop.Unread unread.Memory) lines of is = inr (record { lines_are = inl is; is_status = refl })
 stop_said A net named (stop.Unread unread.Read) lines of is = inr (record { lines_are = inr is; is_status = refl })
 
-pub stopped_check : (A : Type 0) (net : Option (List ℕ)) (named : List ℕ → Option (List ℕ)) (old new : Option (List ℕ)) (stopped : Stop) (status : Status)
-    → IsStopOf A net named stopped → PrintsStop stopped old new status → PrintsCheck A net named old new status
+pub stopped_check : (A : Type 0) (net : Option (List ℕ)) (named : List ℕ → Option (List ℕ)) (old new : Option (List ℕ)) (stopped : PlanStop) (status : Status)
+    → IsPlanStop A net named stopped → PrintsPlanStop stopped old new status → PrintsCheck A net named old new status
 stopped_check A net named old new stopped status of prints = record {
   lines = prints.lines;
   meant = Usage;
@@ -65,8 +45,8 @@ stopped_check A net named old new stopped status of prints = record {
   printed = prints.printed;
 }
 
-pub stopped_replay : (A : Type 0) (net : Option (List ℕ)) (named : List ℕ → Option (List ℕ)) (steps old new : Option (List ℕ)) (stopped : Stop) (status : Status)
-    → IsStopOf A net named stopped → PrintsStop stopped old new status → PrintsReplay A net named steps old new status
+pub stopped_replay : (A : Type 0) (net : Option (List ℕ)) (named : List ℕ → Option (List ℕ)) (steps old new : Option (List ℕ)) (stopped : PlanStop) (status : Status)
+    → IsPlanStop A net named stopped → PrintsPlanStop stopped old new status → PrintsReplay A net named steps old new status
 stopped_replay A net named steps old new stopped status of prints = prints_lines prints.lines Usage
     (elim (stop_said A net named stopped prints.lines of prints.said) [
       | inl fault ↦ lists_fault fault

@@ -5,4 +5,4 @@
 mod network;
 mod replay;
 
-pub use network::{Stop, print_stop, read_confs, read_plan, run_check, run_replay, stop_of};
+pub use network::{run_check, run_replay};

@@ -1,19 +1,18 @@
 //! A plan is read whole and the checker's line printed; behind an answer steps are taken, and their
 //! listing is printed.
 
-ghost use Rattle.std.specs.Prelude.{◌≡◌, ◌≤◌, ◌+◌, length, map, string_bytes, IfOk, IfErr};
-ghost use Rattle.std.specs.List.{AllZip};
-ghost use Rattle.plan_lines.specs.Plans.{texts as texts_of};
-ghost use Rattle.plan_answers.specs.Networks.{answer_line, answer_status, joined_status, unread_line as unread_line_of, AreReplayed, IsAnswered, IsPlanRead, IsStopOf, PrintsCheck, PrintsReplay, PrintsStop, StopsWith};
+ghost use Rattle.std.specs.Prelude.{◌≡◌, ◌≤◌, ◌+◌, string_bytes, IfOk, IfErr};
+ghost use Rattle.plan_answers.specs.Networks.{answer_line, answer_status, joined_status, AreReplayed, IsAnswered, PrintsCheck, PrintsReplay};
 ghost use Rattle.plan_answers.specs.Replays.{IsYesEarned};
-ghost use Rattle.program_text.specs.Texts.{IsTextOf};
+ghost use Rattle.program_text.specs.Plans.{IsPlanStop};
 
 use crate::replay::{Said, replay};
-use loss_checker::{Answer, Plan, PlanError, check, conf_names};
+use loss_checker::{Answer, Plan, check};
 use program_text::{
-    CountedRead, Open, OutputFault, ReadFault, Status, put_all, put_last, read_named, read_whole,
+    CountedRead, Open, OutputFault, PlanStop, ReadFault, Status, print_plan_stop, put_all,
+    put_last, read_plan, read_whole, unread_line,
 };
-use std::alloc::{AllocError, Allocator};
+use std::alloc::Allocator;
 use std::io::Write;
 
 /// Prints what the checker says of the plan that `net` gives, with the configurations that it
@@ -31,7 +30,7 @@ pub fn run_check<A: Allocator + Copy, R: CountedRead, O: Open, W: Write>(
 {
     match read_checked(alloc, net, files) {
         Ok(checked) => put_last(out, checked.line.as_bytes(), status_of(checked.answer)),
-        Err(stop) => print_stop(alloc, stop, out),
+        Err(stop) => print_plan_stop(alloc, stop, out),
     }
 }
 
@@ -57,7 +56,7 @@ pub fn run_replay<A: Allocator + Copy, R: CountedRead, S: CountedRead, O: Open, 
 {
     let checked = match read_checked(alloc, net, files) {
         Ok(checked) => checked,
-        Err(stop) => return print_stop(alloc, stop, out),
+        Err(stop) => return print_plan_stop(alloc, stop, out),
     };
     if let Err(OutputFault) = put_all(out, checked.line.as_bytes()) {
         return Status::Usage;
@@ -65,38 +64,6 @@ pub fn run_replay<A: Allocator + Copy, R: CountedRead, S: CountedRead, O: Open, 
     match replay_read(alloc, &checked.plan, steps) {
         Ok(said) => put_last(out, &said.lines, joined(checked.answer, said.status)),
         Err(fault) => put_last(out, unread_line(fault).as_bytes(), Status::Usage),
-    }
-}
-
-/// Why there is no answer.
-#[derive(Drop)]
-pub enum Stop {
-    /// The plan has this fault, which isn't want of memory.
-    Plan(PlanError),
-    /// A text isn't read, or what it needs isn't there.
-    Unread(ReadFault),
-}
-
-impl From<ReadFault> for Stop {
-    ghost use Rattle.std.specs.Prelude.{◌≡◌};
-    ghost use Rattle.plan_answers.specs.declared.network.Stop.TheVariants.{Unread};
-
-    ghost from_gives = { λ fault stop. stop ≡ Unread fault };
-
-    fn from(fault: ReadFault) -> Stop {
-        Stop::Unread(fault)
-    }
-}
-
-impl From<AllocError> for Stop {
-    ghost use Rattle.std.specs.Prelude.{◌≡◌};
-    ghost use Rattle.plan_answers.specs.declared.network.Stop.TheVariants.{Unread};
-    ghost use Rattle.program_text.specs.declared.reading.ReadFault.TheVariants.{Memory};
-
-    ghost from_gives = { λ _ stop. stop ≡ Unread Memory };
-
-    fn from(_: AllocError) -> Stop {
-        Stop::Unread(ReadFault::Memory)
     }
 }
 
@@ -113,67 +80,19 @@ fn read_checked<A: Allocator + Copy, R: CountedRead, O: Open>(
     alloc: A,
     net: &mut R,
     files: &O,
-) -> Result<Checked<A>, Stop>
+) -> Result<Checked<A>, PlanStop>
     ensures answered { IfOk result
         (λ checked. IsAnswered A (R.remaining net.old)
         (O.text_of files.now) checked.plan checked.answer) }
     ensures earned { IfOk result (λ checked. IsYesEarned checked.plan checked.answer) }
     ensures line { IfOk result (λ checked. string_bytes checked.line ≡ answer_line checked.answer) }
-    ensures stop { IfErr result (IsStopOf A (R.remaining net.old) (O.text_of files.now)) }
+    ensures stop { IfErr result (IsPlanStop A (R.remaining net.old) (O.text_of files.now)) }
     ensures calls { R.calls net.new ≤ R.calls net.old + 16777216 }
 {
     let plan = read_plan(alloc, net, files)?;
     let answer = check(alloc, &plan)?;
     let line = format!(in alloc; "{answer}\n")?;
     Ok(Checked { plan, answer, line })
-}
-
-/// The plan of the texts that are read, or why there is none.
-pub fn read_plan<A: Allocator + Copy, R: CountedRead, O: Open>(
-    alloc: A,
-    net: &mut R,
-    files: &O,
-) -> Result<Plan<A>, Stop>
-    ensures plan { IfOk result (IsPlanRead (R.remaining net.old) (O.text_of files.now)) }
-    ensures stop { IfErr result (IsStopOf A (R.remaining net.old) (O.text_of files.now)) }
-    ensures calls { R.calls net.new ≤ R.calls net.old + 16777216 }
-{
-    let text = read_whole(alloc, net)?;
-    let names = conf_names(alloc, &text)?;
-    let confs = read_confs(alloc, &names, files)?;
-    match Plan::read(alloc, &text, &confs) {
-        Ok(plan) => Ok(plan),
-        Err(fault) => Err(stop_of(fault)),
-    }
-}
-
-/// What a fault of the plan stops with: want of memory is none of the plan's.
-pub fn stop_of(fault: PlanError) -> Stop
-    ensures { StopsWith fault result }
-{
-    match fault {
-        PlanError::Memory => Stop::Unread(ReadFault::Memory),
-        other => Stop::Plan(other),
-    }
-}
-
-/// The texts of these names, in their order, each read whole.
-pub fn read_confs<A: Allocator + Copy, O: Open>(
-    alloc: A,
-    names: &[&str],
-    files: &O,
-) -> Result<Vec<Vec<u8, A>, A>, ReadFault>
-    ensures count { IfOk result (λ confs. length confs.items ≡ length names.now) }
-    ensures texts { IfOk result
-        (λ confs. AllZip (λ name conf. IsTextOf (O.text_of files.now name) conf)
-        (map (λ name. name.now) names.now) (texts_of confs.items)) }
-{
-    let mut confs = Vec::new(alloc);
-    for name in names {
-        let conf = read_named(alloc, name, files)?;
-        confs.push(conf)?;
-    }
-    Ok(confs)
 }
 
 // What becomes of the steps that are read, in the network of the plan, whichever answer the plan
@@ -210,32 +129,5 @@ fn joined(answer: Answer, after: Status) -> Status
     match (answer, after) {
         (Answer::No { .. }, Status::Done) => Status::No,
         (_, after) => after,
-    }
-}
-
-// The line that says why a text isn't read.
-fn unread_line(fault: ReadFault) -> &'static str
-    ensures { result.now ≡ unread_line_of fault }
-{
-    match fault {
-        ReadFault::Memory => "fault memory\n",
-        ReadFault::Read => "fault read\n",
-    }
-}
-
-/// Prints why there is no answer, as a line. The status is that of a usage.
-pub fn print_stop<A: Allocator, W: Write>(alloc: A, stop: Stop, out: &mut W) -> Status
-    ensures { PrintsStop stop (W.contents out.old) (W.contents out.new) result }
-{
-    match stop {
-        Stop::Plan(fault) => match format!(in alloc; "fault {fault}\n") {
-            Ok(line) => put_last(out, line.as_bytes(), Status::Usage),
-            Err(AllocError) => put_last(
-                out,
-                unread_line(ReadFault::Memory).as_bytes(),
-                Status::Usage,
-            ),
-        },
-        Stop::Unread(fault) => put_last(out, unread_line(fault).as_bytes(), Status::Usage),
     }
 }

@@ -1,3 +1,4 @@
 pub mod ListingSteps
 pub mod OutputSteps
+pub mod PlanSteps
 pub mod ReadingSteps

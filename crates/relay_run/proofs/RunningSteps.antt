@@ -3,6 +3,7 @@ use Rattle.std.proofs.Common.{ℕ, ◌≡◌, ◌∙◌, ◌<◌, ◌≤◌, ◌
 use Rattle.std.specs.Option.{option_or}
 use Rattle.std.proofs.Math.ListN.{drop_of_length-le}
 use Rattle.std.proofs.lemmas.List.{drop_more}
+use Rattle.std.proofs.lemmas.List.Elements.{All-cons, All-head, All-map, All-nil, All-same, All-tail}
 use Rattle.std.specs.Prelude.{map}
 use Rattle.std.specs.List.{All}
 use Rattle.std.specs.contracts.alloc.Global as heap
@@ -13,31 +14,41 @@ use Rattle.loop_core.specs.Buffers.{AreBuffersOf, ArePlaced}
 use Rattle.loop_core.specs.Folders.{path_for}
 use Rattle.loop_core.specs.Owners.{Owned}
 use Rattle.relay_ports.specs.declared.buffered.BufferedOutput.{BufferedOutput}
+use Rattle.relay_ports.specs.Outputs.{settings_of}
 use Rattle.relay_ports.specs.Setups.{Setup}
-use Rattle.relay_run.specs.Loops.{Continues, IsOpened}
-use Rattle.relay_run.specs.Running.{IsPoolOf, PoolEnded, PoolState, RelayState, Runs, fault_of, first_fault}
+use Rattle.relay_run.specs.Loops.{Continues, IsCarried, IsOpened, Placed, placed_as, placed_in}
+use Rattle.relay_run.specs.Running.{PoolEnded, PoolState, RelayState, Runs, fault_of, first_fault}
 
 map_map : {X Y Z : Type 0} (f : X → Y) (g : Y → Z) (xs : List X) → map g (map f xs) ≡ map (λ (x : X). g (f x)) xs
 map_map f g [] = refl
 map_map f g (x ∷ xs) = ap (λ r. g (f x) ∷ r) (map_map f g xs)
+
+unmap : {X Y : Type 0} (P : Y → Type 0) (f : X → Y) (xs : List X) → All P (map f xs) → All (λ (x : X). P (f x)) xs
+unmap {X} P f [] h = All-nil (λ (x : X). P (f x))
+unmap {X} P f (x ∷ xs) h = All-cons (λ (x : X). P (f x)) x xs (All-head P (f x) (map f xs) h) (unmap P f xs (All-tail P (f x) (map f xs) h))
+
+-- what is asked of pools is what is asked of the jobs that they are made of
+asked : {X : Type 0} (h : Placed → X) (pools : List PoolState) (jobs : List (Owned heap.the_row.Denot)) → map placed_in pools ≡ map placed_as jobs
+    → map (λ (p : PoolState). h (placed_in p)) pools ≡ map (λ (j : Owned heap.the_row.Denot). h (placed_as j)) jobs
+asked h pools jobs made = sym (map_map placed_in h pools) ∙ ap (map h) made ∙ map_map placed_as h jobs
 
 -- a relay that listens goes on to run, with a pool for each of the jobs that it was opened with
 pub goes_on : (folder : List ℕ) (bound : BoundState heap.the_row.Denot) (relay : RelayState) (jobs : List (Owned heap.the_row.Denot))
     → (relay.sources ≡ bound.sources) × (relay.bound ≡ bound.bound) → ArePortsOf bound.sources relay.ports
     → AreBuffersOf bound.number bound.outputs relay.buffers
     → (map (λ job. job.output) jobs ≡ bound.outputs) × (map (λ job. job.terms) jobs ≡ relay.buffers)
-    → ArePlaced (path_for folder) jobs → map (λ pool. pool.job) relay.pools ≡ jobs → All (IsPoolOf folder) relay.pools → Continues folder bound relay
-goes_on folder bound relay jobs same ports buffers own placed made pools =
-    let job : PoolState → Owned heap.the_row.Denot = λ p. p.job in
+    → ArePlaced (path_for folder) jobs → map placed_in relay.pools ≡ map placed_as jobs → All (IsCarried folder) relay.pools → Continues folder bound relay
+goes_on folder bound relay jobs same ports buffers own placed made carried =
+    let Q : Placed → Type 0 = λ p. p.1.1 ≡ path_for folder (settings_of p.0).kind in
+    let at = unmap Q placed_in relay.pools (All-same Q (map placed_in relay.pools) (map placed_as jobs) made (All-map Q placed_as jobs placed)) in
     record {
       sources = same.0;
       listens = same.1;
       ports = ports;
       buffers = buffers;
-      outputs = sym (map_map job (λ (j : Owned heap.the_row.Denot). j.output) relay.pools) ∙ ap (map (λ (j : Owned heap.the_row.Denot). j.output)) made ∙ own.0;
-      shared = sym (map_map job (λ (j : Owned heap.the_row.Denot). j.terms) relay.pools) ∙ ap (map (λ (j : Owned heap.the_row.Denot). j.terms)) made ∙ own.1;
-      placed = subst (ArePlaced (path_for folder)) (sym made) placed;
-      pools = pools;
+      outputs = asked (λ p. p.0) relay.pools jobs made ∙ own.0;
+      shared = asked (λ p. p.1.0) relay.pools jobs made ∙ own.1;
+      pools = λ k d lt. (at k d lt, carried k d lt);
     }
 
 -- a relay that listens as its setup says, and goes on so, runs as the setup says
@@ -53,7 +64,6 @@ runs_as {folder} {setup} {relay} opened =
           (subst (λ (os : List (BufferedOutput heap.the_row.Denot)). AreBuffersOf opened.bound.number os relay.buffers) is.outputs on.buffers);
       outputs = on.outputs ∙ is.outputs;
       shared = on.shared;
-      placed = on.placed;
       pools = on.pools;
     }
 

@@ -1,5 +1,5 @@
 -- From what is read and written to what a relay prints.
-use Rattle.std.proofs.Common.{◌≡◌, inl, inr, ℕ, List, [], refl, subst, Option, Some, None}
+use Rattle.std.proofs.Common.{◌≡◌, inl, ℕ, List, [], refl, subst, Option, Some, None}
 use Rattle.std.specs.contracts.alloc.Global as heap
 use Rattle.loop_core.specs.declared.fault.LoopFault.{LoopFault}
 use Rattle.program_text.specs.declared.status.Status.{Status}
@@ -7,7 +7,7 @@ use Rattle.program_text.specs.declared.status.Status.TheVariants.{Done, Usage}
 use Rattle.program_text.specs.Output.{TakesPart, IsPrinted}
 use Rattle.relay_ports.specs.Setups.{Setup}
 use Rattle.relay_run.specs.Running.{RelayState}
-use Rattle.relay_run.specs.Starting.{EndsBy, PrintsEnd, PrintsReady, PrintsRun, fault_line, ready_lines}
+use Rattle.relay_run.specs.Starting.{EndsBy, PrintsEnd, PrintsReady, PrintsRun, fault_line, not_opened, ready_lines}
 use Rattle.program_text.proofs.OutputSteps.{TakesPart-none}
 
 -- the lines of these sources are printed, or a beginning of them
@@ -37,6 +37,6 @@ ended_well relay old new ended ready by none = record {
 }
 
 -- a relay wasn't opened, for this fault
-pub not_opened : (folder : List ℕ) (setup : Setup heap.the_row.Denot) (old new : Option (List ℕ)) (fault : LoopFault) (line : List ℕ) (status : Status) → line ≡ fault_line fault
+pub unopened : (folder : List ℕ) (setup : Setup heap.the_row.Denot) (old new : Option (List ℕ)) (fault : LoopFault) (line : List ℕ) (status : Status) → line ≡ fault_line fault
     → IsPrinted old new line Usage status → PrintsRun folder setup old new status
-not_opened folder setup old new fault line status is printed = inr (fault, subst (λ l. IsPrinted old new l Usage status) is printed)
+unopened folder setup old new fault line status is printed = not_opened fault (subst (λ l. IsPrinted old new l Usage status) is printed)

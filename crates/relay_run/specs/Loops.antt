@@ -2,12 +2,30 @@
 use Rattle.std.specs.Prelude.{ℕ, ◌≡◌, All, List, map, Option}
 use Rattle.std.specs.contracts.alloc.Global as heap
 use Rattle.loop_core.specs.declared.fault.LoopFault.{LoopFault}
-use Rattle.loop_core.specs.Buffers.{AreBuffersOf, ArePlaced}
-use Rattle.loop_core.specs.Folders.{path_for}
+use Rattle.ack_receipt.specs.Terms.{Terms}
+use Rattle.loop_core.specs.Buffers.{AreBuffersOf}
+use Rattle.loop_core.specs.Owners.{Owned}
 use Rattle.mio_relay.specs.Connections.{ArePortsOf, served_as}
 use Rattle.mio_relay.specs.Loops.{BoundState, LoopState}
+use Rattle.relay_ports.specs.declared.buffered.BufferedOutput.{BufferedOutput}
 use Rattle.relay_ports.specs.Setups.{Setup}
-use Rattle.relay_run.specs.Running.{IsPoolOf, PoolEnded, PoolState, RelayState}
+use Rattle.relay_run.specs.Running.{IsCarrierOf, IsPoolOf, PoolEnded, PoolState, RelayState}
+
+-- an output, its buffer, and where that lies
+abbrev pub Placed : Type 0
+Placed = BufferedOutput heap.the_row.Denot × Terms heap.the_row.Denot × Option (List ℕ)
+
+-- those of what was opened
+abbrev pub placed_as : Owned heap.the_row.Denot → Placed
+placed_as job = (job.output, job.terms, job.path)
+
+-- those of what delivers its chunks
+abbrev pub placed_in : PoolState → Placed
+placed_in pool = (pool.output, pool.terms, pool.path)
+
+-- its chunks are carried as the output's settings say, to files in this folder
+abbrev pub IsCarried : (folder : List ℕ) → PoolState → Type 0
+IsCarried folder pool = IsCarrierOf folder pool.output pool.carrier
 
 -- a relay that runs: its loop, the ports of its sources, and what delivers the chunks of its
 -- outputs
@@ -51,9 +69,8 @@ pub record Continues (folder : List ℕ) (bound : BoundState heap.the_row.Denot)
   pub listens : relay.bound ≡ bound.bound
   pub ports : ArePortsOf bound.sources relay.ports
   pub buffers : AreBuffersOf bound.number bound.outputs relay.buffers
-  pub outputs : map (λ pool. pool.job.output) relay.pools ≡ bound.outputs
-  pub shared : map (λ pool. pool.job.terms) relay.pools ≡ relay.buffers
-  pub placed : ArePlaced (path_for folder) (map (λ pool. pool.job) relay.pools)
+  pub outputs : map (λ pool. pool.output) relay.pools ≡ bound.outputs
+  pub shared : map (λ pool. pool.terms) relay.pools ≡ relay.buffers
   pub pools : All (IsPoolOf folder) relay.pools
 
 -- A relay listens at the address of each source of this setup, and nowhere else, and has its number

@@ -17,9 +17,8 @@ use Rattle.relay_ports.specs.declared.buffered.BufferedOutput.{BufferedOutput}
 use Rattle.relay_ports.specs.declared.buffered.BufferedOutput.TheVariants.{Forward, File}
 use Rattle.relay_ports.specs.Outputs.{settings_of}
 use Rattle.relay_ports.specs.Setups.{Setup}
-use Rattle.loop_core.specs.Buffers.{AreBuffersOf, ArePlaced}
+use Rattle.loop_core.specs.Buffers.{AreBuffersOf}
 use Rattle.loop_core.specs.Folders.{path_for}
-use Rattle.loop_core.specs.Owners.{Owned}
 use Rattle.relay_sockets.specs.Endpoints.{Endpoint, Origin}
 use Rattle.relay_sockets.specs.Traffics.{Traffic}
 use Rattle.tcp_courier.specs.Carrying.{IsSent, sender_of}
@@ -27,9 +26,12 @@ use Rattle.mio_relay.specs.Connections.{ArePortsOf, Served, served_as}
 use Rattle.relay_run.specs.declared.flush.Carrier.{Carrier}
 use Rattle.relay_run.specs.declared.flush.Carrier.TheVariants.{Servers, Sink}
 
--- what delivers an output's chunks: the output with the buffer that has them, and what carries them
+-- what delivers an output's chunks: the output, the buffer that has them, in which folder of the
+-- system, if it isn't in memory, and what carries them
 pub record PoolState : Type 0 where
-  pub job : Owned heap.the_row.Denot
+  pub output : BufferedOutput heap.the_row.Denot
+  pub terms : Terms heap.the_row.Denot
+  pub path : Option (List ℕ)
   pub carrier : Carrier
 
 -- The output's chunks are carried by a courier to its servers, as its settings say; or to the sink
@@ -42,9 +44,11 @@ IsCarrierOf folder (File settings) (Sink courier placed) =
     × (option_map string_bytes placed.value.path ≡ Some folder)
 IsCarrierOf folder _ _ = ⊥
 
--- This delivers the chunks of an output as the output's settings say, to files in this folder.
+-- This delivers the chunks of an output as the output's settings say, from and to files in this
+-- folder.
 abbrev pub IsPoolOf : (folder : List ℕ) → PoolState → Type 0
-IsPoolOf folder pool = IsCarrierOf folder pool.job.output pool.carrier
+IsPoolOf folder pool = (pool.path ≡ path_for folder (settings_of pool.output).kind)
+    × IsCarrierOf folder pool.output pool.carrier
 
 -- What this gave for a chunk, over connections with these origins and this traffic: by a courier,
 -- what that gives of a chunk that was sent to one of its servers; and of a sink, that the chunk's
@@ -79,8 +83,8 @@ abbrev pub HaveEnded : {S : Type 0} → (origin : S → Origin) → (traffic : S
     → PoolEnded → Type 0
 HaveEnded origin traffic end = (gate : OpenGate)
     × HaveWorked LetsAll (IsCarriedBy origin traffic)
-    (at end.pool.job.terms end.pool.carrier gate (settings_of end.pool.job.output).retry)
-    (settings_of end.pool.job.output).flush_thread_count end.done
+    (at end.pool.terms end.pool.carrier gate (settings_of end.pool.output).retry)
+    (settings_of end.pool.output).flush_thread_count end.done
 
 -- the fault of a relay whose workers at a buffer ended so
 abbrev pub fault_of : Result Worked BufferFault → Option LoopFault
@@ -103,7 +107,6 @@ pub record Runs (folder : List ℕ) (setup : Setup heap.the_row.Denot)
   pub listens : relay.bound ≡ map (λ source. source.endpoint) relay.sources
   pub ports : ArePortsOf relay.sources relay.ports
   pub buffers : AreBuffersOf setup.number setup.outputs relay.buffers
-  pub outputs : map (λ pool. pool.job.output) relay.pools ≡ setup.outputs
-  pub shared : map (λ pool. pool.job.terms) relay.pools ≡ relay.buffers
-  pub placed : ArePlaced (path_for folder) (map (λ pool. pool.job) relay.pools)
+  pub outputs : map (λ pool. pool.output) relay.pools ≡ setup.outputs
+  pub shared : map (λ pool. pool.terms) relay.pools ≡ relay.buffers
   pub pools : All (IsPoolOf folder) relay.pools

@@ -49,30 +49,20 @@ pub record PrintsEnd (relay : RelayState) (old new : Option (List ℕ))
   pub printed : IsPrinted between new (option_map_or fault_line ended [])
       (option_map_or (λ _. Usage) ended Done) status
 
--- The relay of this setup was opened with its files in this folder, and ended so.
-pub record PrintsOpened (folder : List ℕ) (setup : Setup heap.the_row.Denot)
+-- What running the relay of this setup, with its files in this folder, does to a writer: it was
+-- opened, and ended so; or it wasn't, and none of its sources is printed, but why.
+pub data PrintsRun (folder : List ℕ) (setup : Setup heap.the_row.Denot)
     (old new : Option (List ℕ)) (status : Status) : Type 0 where
-  pub relay : RelayState
-  pub runs : Runs folder setup relay
-  pub ends : PrintsEnd relay old new status
+  opened : (relay : RelayState) → Runs folder setup relay → PrintsEnd relay old new status
+      → PrintsRun folder setup old new status
+  not_opened : (fault : LoopFault) → IsPrinted old new (fault_line fault) Usage status
+      → PrintsRun folder setup old new status
 
--- what running the relay of this setup does to a writer: it was opened and ended; or it wasn't, and
--- none of its sources is printed, but why
-abbrev pub PrintsRun : (folder : List ℕ) → Setup heap.the_row.Denot → (old new : Option (List ℕ))
-    → Status → Type 0
-PrintsRun folder setup old new status = PrintsOpened folder setup old new status
-    ⊎ ((fault : LoopFault) × IsPrinted old new (fault_line fault) Usage status)
-
--- A relay was read from the configuration, and ended so under this number.
-pub record PrintsRunOf (folder : List ℕ) (number : ℕ) (conf old new : Option (List ℕ))
+-- All that `relay` does to a writer, and its status: it runs the relay that the configuration
+-- describes, under this number and with its files in this folder, or says why there is none.
+pub data PrintsRelay (folder : List ℕ) (number : ℕ) (conf old new : Option (List ℕ))
     (status : Status) : Type 0 where
-  pub relay : Relay heap.the_row.Denot
-  pub read : IsRelayRead conf relay
-  pub prints : PrintsRun folder (setup_of number relay) old new status
-
--- all that `relay` does to a writer, and its status: it runs the relay that the configuration
--- describes, with its files in this folder, or says why there is none
-abbrev pub PrintsRelay : (folder : List ℕ) → (number : ℕ) → Option (List ℕ) → Option (List ℕ)
-    → Option (List ℕ) → Status → Type 0
-PrintsRelay folder number conf old new status = PrintsRunOf folder number conf old new status
-    ⊎ PrintsNoRelay conf old new status
+  runs : (relay : Relay heap.the_row.Denot) → IsRelayRead conf relay
+      → PrintsRun folder (setup_of number relay) old new status
+      → PrintsRelay folder number conf old new status
+  refused : PrintsNoRelay conf old new status → PrintsRelay folder number conf old new status

@@ -1,7 +1,8 @@
 //! The threads that deliver a relay's chunks.
 
 ghost use Rattle.std.specs.Prelude.{◌≡◌, IfErr, IfOk};
-ghost use Rattle.relay_run.specs.Running.{IsCarrierOf, IsPoolOf, fault_of as fault_of_done};
+ghost use Rattle.relay_run.specs.Loops.{IsCarried, placed_as, placed_in};
+ghost use Rattle.relay_run.specs.Running.{IsCarrierOf, fault_of as fault_of_done};
 
 use crate::flush_threads::FlushThreads;
 use crate::voice::Voice;
@@ -80,7 +81,7 @@ impl<R: Wait + Net + Clock, D: Dir> Courier<R, D, Global> for Carrier {
 }
 
 /// What one thread has that starts an output's flush threads, and what carries its chunks.
-/// Contracts see the job that it is made of, which says whose buffer it is.
+/// Contracts see whose buffer it is, where that lies, and what carries its chunks.
 #[derive(Drop)]
 pub struct Pool {
     threads: FlushThreads<Folder, Global>,
@@ -95,7 +96,12 @@ impl Model for Pool {
 
     ghost Value = { PoolState };
 
-    ghost view = { λ p. record { job = p.threads; carrier = p.carrier } };
+    ghost view = { λ p. record {
+      output = p.threads.output;
+      terms = p.threads.terms;
+      path = p.threads.path;
+      carrier = p.carrier;
+    } };
 }
 
 impl Pool {
@@ -111,8 +117,8 @@ impl Pool {
         stop: &Arc<AtomicBool>,
         voice: &Voice,
     ) -> Result<Pool, LoopFault>
-        ensures job { IfOk result (λ pool. pool.job ≡ job.now) }
-        ensures carrier { IfOk result (IsPoolOf home.entry.path.now) }
+        ensures job { IfOk result (λ pool. placed_in pool ≡ placed_as job.now) }
+        ensures carrier { IfOk result (IsCarried home.entry.path.now) }
     {
         let number = job.output().number();
         Ok(Pool {

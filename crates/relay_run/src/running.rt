@@ -1,8 +1,8 @@
 //! A relay that runs: its loop, and for each output the threads that deliver its chunks.
 
 ghost use Rattle.std.specs.Prelude.{◌≡◌, ◌++◌, All, IfErr, IfOk, OnOk, map};
-ghost use Rattle.relay_run.specs.Loops.{Continues, relay_of, started_as};
-ghost use Rattle.relay_run.specs.Running.{IsPoolOf, first_fault};
+ghost use Rattle.relay_run.specs.Loops.{Continues, IsCarried, placed_as, placed_in, relay_of, started_as};
+ghost use Rattle.relay_run.specs.Running.{first_fault};
 ghost use Rattle.relay_run.specs.Starting.{ready_lines};
 
 use crate::flush::{Folder, Home, Pool, PoolEnd, copy_of};
@@ -239,8 +239,8 @@ fn furnish<R: AllocGlobal + RandomSource + Wait>(
     stop: &Arc<AtomicBool>,
     voice: &Voice,
 ) -> Result<(Vec<Pool>, Vec<u8>), LoopFault>
-    ensures jobs { IfOk result (λ made. map (λ pool. pool.job) made.0.items ≡ jobs.items) }
-    ensures pools { IfOk result (λ made. All (IsPoolOf home.entry.path.now) made.0.items) }
+    ensures jobs { IfOk result (λ made. map placed_in made.0.items ≡ map placed_as jobs.items) }
+    ensures pools { IfOk result (λ made. All (IsCarried home.entry.path.now) made.0.items) }
     ensures ready { IfOk result (λ made. made.1.items ≡ ready_lines ports.now) }
 {
     let pools = open_pools(rt, home, jobs, stop, voice)?;
@@ -255,8 +255,8 @@ fn open_pools<R: AllocGlobal + RandomSource + Wait>(
     stop: &Arc<AtomicBool>,
     voice: &Voice,
 ) -> Result<Vec<Pool>, LoopFault>
-    ensures jobs { IfOk result (λ pools. map (λ pool. pool.job) pools.items ≡ jobs.items) }
-    ensures pools { IfOk result (λ pools. All (IsPoolOf home.entry.path.now) pools.items) }
+    ensures jobs { IfOk result (λ pools. map placed_in pools.items ≡ map placed_as jobs.items) }
+    ensures pools { IfOk result (λ pools. All (IsCarried home.entry.path.now) pools.items) }
 {
     let mut pools = Vec::new(rt.alloc());
     let mut left = jobs.into_iter();

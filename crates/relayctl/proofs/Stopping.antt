@@ -10,8 +10,9 @@ use Rattle.label_plan.specs.declared.name.DropName.{DropName}
 use Rattle.label_plan.specs.Checks.{IsLabelledCheck}
 use Rattle.loss_checker.specs.declared.broken.BrokenRule.{BrokenRule}
 use Rattle.loss_rules.specs.Breaks.{Subject}
-use Rattle.plan_answers.specs.declared.network.Stop.TheVariants as stop
-use Rattle.plan_answers.specs.Networks.{IsStopLine, PrintsStop, unread_line}
+use Rattle.program_text.specs.declared.plan_text.PlanStop.TheVariants as stop
+use Rattle.plan_answers.specs.Networks.{IsStopLine}
+use Rattle.program_text.specs.Plans.{PrintsPlanStop, unread_line}
 use Rattle.plan_lines.specs.Forms.{confs_named}
 use Rattle.plan_lines.specs.Plans.{texts}
 use Rattle.program_text.specs.declared.reading.ReadFault.{ReadFault}
@@ -36,7 +37,7 @@ stop_line unread.Memory lines is = record { lines_are = inl is; is_status = refl
 stop_line unread.Read lines is = record { lines_are = inr is; is_status = refl }
 
 -- what stops is said in place of faults
-pub stopped_unread : (out old new : Option (List ℕ)) (fault : ReadFault) (status : Status) → PrintsStop (stop.Unread fault) old new status → PrintsUnread out out old new status
+pub stopped_unread : (out old new : Option (List ℕ)) (fault : ReadFault) (status : Status) → PrintsPlanStop (stop.Unread fault) old new status → PrintsUnread out out old new status
 stopped_unread out old new fault status prints = record {
   lines = prints.lines;
   stop = stop_line fault prints.lines prints.said;

@@ -3,7 +3,7 @@ use Rattle.std.specs.Prelude.{◌≡◌, ◌⊎◌, true, false, ℕ, List, ◌+
 use Rattle.label_plan.specs.declared.name.DropName.{DropName}
 use Rattle.conf_listing.specs.Networks.{AreAdaptedTexts, AreNotAdapted}
 use Rattle.conf_listing.specs.declared.confs.StoppedConfs.{StoppedConfs}
-use Rattle.plan_answers.specs.Networks.{AreRead}
+use Rattle.program_text.specs.Plans.{AreRead}
 use Rattle.plan_lines.specs.Forms.{confs_named}
 use Rattle.program_text.specs.Lines.{line}
 use Rattle.program_text.specs.declared.status.Status.{Status}

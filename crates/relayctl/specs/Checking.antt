@@ -9,7 +9,8 @@ use Rattle.loss_rules.specs.Breaks.{Subject}
 use Rattle.loss_rules.specs.declared.answer.Answer.TheVariants as answer
 use Rattle.loss_rules.specs.declared.answer.Place.{Place}
 use Rattle.loss_rules.specs.declared.answer.Rule.{Rule}
-use Rattle.plan_answers.specs.Networks.{AreRead, answer_line, IsStopLine}
+use Rattle.plan_answers.specs.Networks.{answer_line, IsStopLine}
+use Rattle.program_text.specs.Plans.{AreRead}
 use Rattle.plan_lines.specs.Faults.{IsRefusal}
 use Rattle.plan_lines.specs.declared.error.PlanError.{PlanError}
 use Rattle.plan_lines.specs.declared.error.PlanError.TheVariants as refusal

@@ -6,7 +6,8 @@ use Rattle.loss_search.specs.Losses.{IsLosingText}
 use Rattle.loss_rules.specs.Breaks.{IsAnswer, Subject}
 use Rattle.loss_rules.specs.declared.answer.Answer.{Answer}
 use Rattle.loss_rules.specs.declared.answer.Answer.TheVariants as answer
-use Rattle.plan_answers.specs.Networks.{answer_line, answer_status, plan_fault_line, AreRead, IsRefusedPlan, IsStopLine}
+use Rattle.plan_answers.specs.Networks.{answer_line, answer_status, IsStopLine}
+use Rattle.program_text.specs.Plans.{plan_fault_line, AreRead, IsRefusedPlan}
 use Rattle.plan_lines.specs.declared.error.PlanError.{PlanError}
 use Rattle.plan_lines.specs.declared.error.PlanError.TheVariants as refusal
 use Rattle.program_text.specs.Lines.{line}

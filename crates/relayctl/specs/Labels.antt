@@ -3,7 +3,8 @@ use Rattle.std.specs.Prelude.{◌≡◌, ℕ, List, codes, Option, Some, ◌⊎�
 use Rattle.std.specs.declared.vec.Vec.{Vec}
 use Rattle.label_plan.specs.Labelling.{IsLabelled}
 use Rattle.label_plan.specs.Lines.{lines_without_labels}
-use Rattle.plan_answers.specs.Networks.{AreRead, IsFaultLine, IsStopLine}
+use Rattle.plan_answers.specs.Networks.{IsFaultLine, IsStopLine}
+use Rattle.program_text.specs.Plans.{AreRead}
 use Rattle.program_text.specs.Lines.{line}
 use Rattle.program_text.specs.Output.{IsPrinted}
 use Rattle.program_text.specs.Texts.{IsTextOf}

@@ -14,8 +14,10 @@ use conf_listing::{AdaptedConfs, StoppedConfs, adapt_confs};
 use label_plan::{DropError, DropName, DroppedPlanError, LabelledCheck, check_dropping};
 use loss_checker::{BrokenRule, Plan, PlanError, conf_names};
 use plan_advice::{Texts, put_stale_reaches, put_warnings};
-use plan_answers::{Stop, print_stop, read_confs};
-use program_text::{CountedRead, Open, ReadFault, Status, put_last, read_whole};
+use program_text::{
+    CountedRead, Open, PlanStop, ReadFault, Status, print_plan_stop, put_last, read_confs,
+    read_whole,
+};
 use std::alloc::{AllocError, Allocator};
 use std::io::Write;
 use text_lines::lines;
@@ -90,7 +92,7 @@ fn print_check<A: Allocator, W: Write, F: Write>(
     match found {
         Ok(Check::Answered(said)) => put_last(out, &said.lines, said.status),
         Ok(Check::Refused(said)) => put_last(faults, &said.lines, said.status),
-        Err(fault) => print_stop(alloc, Stop::Unread(fault), faults),
+        Err(fault) => print_plan_stop(alloc, PlanStop::Unread(fault), faults),
     }
 }
 

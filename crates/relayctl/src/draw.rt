@@ -7,9 +7,11 @@ use crate::explain::{Said, say_fault};
 use label_plan::{LabelledCheck, check_labelled};
 use loss_checker::{PlanError, conf_names};
 use plan_advice::Texts;
-use plan_answers::{Stop, print_stop, read_confs};
 use plan_drawing::{draw_dot, draw_text};
-use program_text::{CountedRead, Open, ReadFault, Status, put_last, read_whole};
+use program_text::{
+    CountedRead, Open, PlanStop, ReadFault, Status, print_plan_stop, put_last, read_confs,
+    read_whole,
+};
 use std::alloc::{AllocError, Allocator};
 use std::io::Write;
 use text_lines::lines;
@@ -38,7 +40,7 @@ pub fn run_draw<A: Allocator + Copy, R: CountedRead, O: Open, W: Write, F: Write
     match draw_read(alloc, name, drawing, net, files) {
         Ok(Ok(picture)) => put_last(out, &picture, Status::Done),
         Ok(Err(said)) => put_last(faults, &said.lines, said.status),
-        Err(fault) => print_stop(alloc, Stop::Unread(fault), faults),
+        Err(fault) => print_plan_stop(alloc, PlanStop::Unread(fault), faults),
     }
 }
 

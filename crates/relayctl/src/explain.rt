@@ -3,15 +3,17 @@
 
 ghost use Rattle.std.specs.Prelude.{◌≡◌, ◌++◌, flat_map, IfOk};
 ghost use Rattle.loss_rules.specs.Breaks.{IsAnswer};
-ghost use Rattle.plan_answers.specs.Networks.{plan_fault_line};
+ghost use Rattle.program_text.specs.Plans.{plan_fault_line};
 ghost use Rattle.relayctl.specs.Explaining.{last_line as last_line_of, IsExplanation, PrintsExplanation, SaysAnswer, SaysFault, SaysFaults};
 
 use crate::drops::{put_drops, say_missing};
 use label_plan::{DropError, DropName, DroppedPlanError, plan_with_drops};
 use loss_checker::{Answer, Plan, PlanError, check, conf_names};
 use plan_advice::{Texts, explain, explain_fault};
-use plan_answers::{Stop, print_stop, read_confs};
-use program_text::{CountedRead, Open, ReadFault, Status, put_last, read_whole};
+use program_text::{
+    CountedRead, Open, PlanStop, ReadFault, Status, print_plan_stop, put_last, read_confs,
+    read_whole,
+};
 use std::alloc::{AllocError, Allocator};
 use std::io::Write;
 
@@ -34,7 +36,7 @@ pub fn run_explain<A: Allocator + Copy, R: CountedRead, O: Open, W: Write>(
 {
     match explain_read(alloc, name, net, files, drops) {
         Ok(said) => put_last(out, &said.lines, said.status),
-        Err(fault) => print_stop(alloc, Stop::Unread(fault), out),
+        Err(fault) => print_plan_stop(alloc, PlanStop::Unread(fault), out),
     }
 }
 

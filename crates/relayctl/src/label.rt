@@ -1,13 +1,15 @@
 //! The word `label`: a plan with the labels and reaches that it lacks.
 
 ghost use Rattle.std.specs.Prelude.{IfOk, IfErr, IfSome};
-ghost use Rattle.plan_answers.specs.Networks.{IsStopOf};
+ghost use Rattle.program_text.specs.Plans.{IsPlanStop};
 ghost use Rattle.relayctl.specs.Labels.{IsLabelledPlan, IsWithoutLabels, PrintsFreshLabels, PrintsLabels};
 
 use label_plan::{labelled_text, without_labels};
 use loss_checker::conf_names;
-use plan_answers::{Stop, print_stop, read_confs, stop_of};
-use program_text::{CountedRead, Open, ReadFault, Status, put_last, read_whole};
+use program_text::{
+    CountedRead, Open, PlanStop, ReadFault, Status, plan_stop, print_plan_stop, put_last,
+    read_confs, read_whole,
+};
 use std::alloc::Allocator;
 use std::io::Write;
 
@@ -26,7 +28,7 @@ pub fn run_label<A: Allocator + Copy, R: CountedRead, O: Open, W: Write>(
     match label_read(alloc, net, files) {
         Ok(Some(text)) => put_last(out, &text, Status::Done),
         Ok(None) => put_last(out, b"no labels\n", Status::No),
-        Err(stop) => print_stop(alloc, stop, out),
+        Err(stop) => print_plan_stop(alloc, stop, out),
     }
 }
 
@@ -42,7 +44,7 @@ pub fn run_fresh_label<A: Allocator + Copy, R: CountedRead, O: Open, W: Write>(
 {
     match fresh_read(alloc, net) {
         Ok(text) => run_label(alloc, &mut text.as_slice(), files, out),
-        Err(fault) => print_stop(alloc, Stop::Unread(fault), out),
+        Err(fault) => print_plan_stop(alloc, PlanStop::Unread(fault), out),
     }
 }
 
@@ -62,17 +64,17 @@ fn label_read<A: Allocator + Copy, R: CountedRead, O: Open>(
     alloc: A,
     net: &mut R,
     files: &O,
-) -> Result<Option<Vec<u8, A>>, Stop>
+) -> Result<Option<Vec<u8, A>>, PlanStop>
     ensures labelled { IfOk result
         (λ found. IfSome found
         (λ text. IsLabelledPlan A (R.remaining net.old) (O.text_of files.now) text.items)) }
-    ensures stop { IfErr result (IsStopOf A (R.remaining net.old) (O.text_of files.now)) }
+    ensures stop { IfErr result (IsPlanStop A (R.remaining net.old) (O.text_of files.now)) }
 {
     let text = read_whole(alloc, net)?;
     let names = conf_names(alloc, &text)?;
     let confs = read_confs(alloc, &names, files)?;
     match labelled_text(alloc, &text, &confs) {
         Ok(found) => Ok(found),
-        Err(fault) => Err(stop_of(fault)),
+        Err(fault) => Err(plan_stop(fault)),
     }
 }

@@ -25,8 +25,9 @@ use explain::run_explain;
 use folder_listing::{DataFolder, run_show};
 use label::{run_fresh_label, run_label};
 use label_plan::DropName;
-use plan_answers::{Stop, print_stop};
-use program_text::{Folder, ReadFault, Status, print_version, put_last, read_whole};
+use program_text::{
+    Folder, PlanStop, ReadFault, Status, print_plan_stop, print_version, put_last, read_whole,
+};
 use status::print_status;
 use std::alloc::{AllocError, Allocator};
 use std::io::{ErrorKind, Write};
@@ -205,7 +206,7 @@ fn answer_plan<'a, A: Allocator, W: Write>(
 
 // Says on standard error why a plan has no answer.
 fn no_answer(rt: &HostRuntime, fault: ReadFault) -> Status {
-    print_stop(rt.alloc(), Stop::Unread(fault), &mut rt.stderr())
+    print_plan_stop(rt.alloc(), PlanStop::Unread(fault), &mut rt.stderr())
 }
 
 // The words that name matches: those of the command, and behind them those of the files at these

@@ -3,8 +3,8 @@ use Rattle.std.specs.Prelude.{◌≡◌, ◌<◌, ◌≤◌, ◌⊎◌, ℕ, Lis
 use Rattle.std.specs.List.{flat_map}
 use Rattle.std.specs.Option.{option_map_or}
 use Rattle.loss_rules.specs.Breaks.{Subject}
-use Rattle.plan_answers.specs.Networks.{IsPlanRead, IsStopOf, PrintsStop}
-use Rattle.plan_answers.specs.declared.network.Stop.{Stop}
+use Rattle.program_text.specs.Plans.{IsPlanRead, IsPlanStop, PrintsPlanStop}
+use Rattle.program_text.specs.declared.plan_text.PlanStop.{PlanStop}
 use Rattle.program_text.specs.Lines.{line, memory_line}
 use Rattle.program_text.specs.Listings.{AreListed}
 use Rattle.program_text.specs.Output.{IsPrinted}
@@ -130,9 +130,9 @@ pub record PrintsListing (A : Type 0) (net : Option (List ℕ)) (named : List �
 -- No plan is read, and why is printed.
 pub record PrintsNoPlan (A : Type 0) (net : Option (List ℕ)) (named : List ℕ → Option (List ℕ))
     (old new : Option (List ℕ)) (status : Status) : Type 0 where
-  pub stopped : Stop
-  pub is_stop : IsStopOf A net named stopped
-  pub printed : PrintsStop stopped old new status
+  pub stopped : PlanStop
+  pub is_stop : IsPlanStop A net named stopped
+  pub printed : PrintsPlanStop stopped old new status
 
 -- all that `ways` does to a writer with a plan, and its status: the ways, or why no plan is read,
 -- or that memory ran out

@@ -13,8 +13,7 @@ use crate::sent::Sent;
 use crate::starts::starts;
 use crate::ways::entered;
 use loss_checker::Plan;
-use plan_answers::{print_stop, read_plan};
-use program_text::{CountedRead, Open, Status, put_last};
+use program_text::{CountedRead, Open, Status, print_plan_stop, put_last, read_plan};
 use relay_conf::{BufferNo, Output};
 use relay_net::{Entrance, Net};
 use route_graph::Way;
@@ -38,7 +37,7 @@ pub fn run_plan_ways<A: Allocator + Copy, B: Allocator, R: CountedRead, O: Open,
 {
     let plan = match read_plan(alloc, net, files) {
         Ok(plan) => plan,
-        Err(stop) => return print_stop(alloc, stop, out),
+        Err(stop) => return print_plan_stop(alloc, stop, out),
     };
     match list_ways(alloc, &plan, tags) {
         Ok(lines) => put_last(out, &lines, Status::Done),

@@ -9,7 +9,7 @@ pub returns-in-Err-clause-printed : goal.returns-in-Err-clause-printed
 returns-in-Err-clause-printed g c =
     let out = g.W.Write.contents in
     stopped_replay g.row.A.Denot (g.R.CountedRead.remaining c.args.net.now) (g.O.Open.text_of c.args.files.now) (g.S.CountedRead.remaining c.args.steps.now)
-    (out c.args.out.now) (out c.print_stop.new.out) c.in-Err.stop c.print_stop.result c.in-Err.ensures.stop c.print_stop.ensures
+    (out c.args.out.now) (out c.print_plan_stop.new.out) c.in-Err.stop c.print_plan_stop.result c.in-Err.ensures.stop c.print_plan_stop.ensures
 
 pub returns-in-Ok-replay_read-clause-printed : goal.returns-in-Ok-replay_read-clause-printed
 returns-in-Ok-replay_read-clause-printed g c =

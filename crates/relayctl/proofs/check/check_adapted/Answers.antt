@@ -1,11 +1,11 @@
 use Rattle.std.proofs.Common.{rules, ◌≡◌, ap, ◌∙◌, subst, inl, inr, map, List, ℕ}
 use Rattle.std.specs.Prelude.{string_bytes}
 use Rattle.conf_listing.specs.Networks.{AreAdaptedTexts, AreNotAdapted}
-use Rattle.plan_answers.specs.Networks.{AreRead}
+use Rattle.program_text.specs.Plans.{AreRead}
 use Rattle.plan_lines.specs.Forms.{confs_named}
 use Rattle.plan_lines.specs.Plans.{texts as texts_of}
 use Rattle.relayctl.specs.Checking.{IsTextsCheck}
-use Rattle.plan_answers.proofs.NetworkSteps.{bytes, are_read}
+use Rattle.program_text.proofs.PlanSteps.{bytes, are_read}
 use Rattle.relayctl.proofs.check.check_adapted.Goals as goal
 
 pub returns-in-Texts : goal.returns-in-Texts

@@ -1,9 +1,9 @@
 use Rattle.std.proofs.Common.{◌≡◌, ap, ◌∙◌, subst, List, ℕ}
-use Rattle.plan_answers.specs.Networks.{AreRead}
+use Rattle.program_text.specs.Plans.{AreRead}
 use Rattle.plan_lines.specs.Forms.{confs_named}
 use Rattle.plan_lines.specs.Plans.{texts as texts_of}
 use Rattle.relayctl.specs.Checking.{IsTextsCheck}
-use Rattle.plan_answers.proofs.NetworkSteps.{bytes, are_read}
+use Rattle.program_text.proofs.PlanSteps.{bytes, are_read}
 use Rattle.relayctl.proofs.check.check_read.Goals as goal
 
 pub returns : goal.returns

@@ -1,11 +1,11 @@
 use Rattle.std.proofs.Common.{rules, ◌≡◌, ◌≢◌, ap, ◌∙◌, inl, inr}
 use Rattle.label_plan.specs.Plans.{IsDroppedPlanOf}
-use Rattle.plan_answers.specs.Networks.{AreRead}
+use Rattle.program_text.specs.Plans.{AreRead}
 use Rattle.plan_lines.specs.Faults.{IsRefusal}
 use Rattle.plan_lines.specs.Forms.{confs_named}
 use Rattle.plan_lines.specs.Plans.{texts as texts_of}
 use Rattle.plan_lines.specs.declared.error.PlanError.TheVariants as refusal
-use Rattle.plan_answers.proofs.NetworkSteps.{bytes, are_read}
+use Rattle.program_text.proofs.PlanSteps.{bytes, are_read}
 use Rattle.relayctl.specs.Dropping.{IsMissing}
 use Rattle.relayctl.proofs.explain.explain_read.Goals as goal
 

@@ -1,5 +1,5 @@
 use Rattle.std.proofs.Common.{◌≡◌, ◌++◌, flat_map, take}
-use Rattle.plan_answers.specs.Networks.{plan_fault_line}
+use Rattle.program_text.specs.Plans.{plan_fault_line}
 use Rattle.relayctl.proofs.explain.fault_lines.Given as goal
 
 abbrev pub invariant-loop-fault : goal.invariant-loop-fault

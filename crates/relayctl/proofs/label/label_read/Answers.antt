@@ -2,7 +2,7 @@ use Rattle.std.proofs.Common.{◌≡◌, ℕ, List, ap, subst, ◌∙◌}
 use Rattle.plan_lines.specs.Faults.{IsRefusal}
 use Rattle.plan_lines.specs.Forms.{confs_named}
 use Rattle.plan_lines.specs.Plans.{texts as texts_of}
-use Rattle.plan_answers.proofs.NetworkSteps.{bytes, are_read, refused_stop}
+use Rattle.program_text.proofs.PlanSteps.{bytes, are_read, refused_stop}
 use Rattle.relayctl.proofs.label.label_read.Goals as goal
 
 pub returns : goal.returns
@@ -15,12 +15,12 @@ returns g c =
     (subst (λ v. IsRefusal g.row.A.Denot c.deref-3.result.now (texts_of v) c.in-Err.fault) c.deref-4.ensures.value c.in-Err.ensures.refused) in
     record {
       labelled = tt;
-      stop = refused_stop g.row.A.Denot (g.R.CountedRead.remaining c.args.net.now) (g.O.Open.text_of c.args.files.now) c.in-Err.fault c.stop_of.result
+      stop = refused_stop g.row.A.Denot (g.R.CountedRead.remaining c.args.net.now) (g.O.Open.text_of c.args.files.now) c.in-Err.fault c.plan_stop.result
           (record {
             text = text;
             confs = confs;
             read = are_read (g.R.CountedRead.remaining c.args.net.now) (g.O.Open.text_of c.args.files.now) text c.deref-2.result.now confs c.in_ok-text.ensures.whole names c.in_ok-confs.ensures.texts;
             refused = said;
           })
-          c.stop_of.ensures;
+          c.plan_stop.ensures;
     }

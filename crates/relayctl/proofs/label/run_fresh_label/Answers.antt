@@ -12,4 +12,4 @@ returns-in-Ok g c =
     )
 
 pub returns-in-Err : goal.returns-in-Err
-returns-in-Err g c = inr (c.print_stop.ensures.lines, stop_line c.in-Err.fault c.print_stop.ensures.lines c.print_stop.ensures.said, c.print_stop.ensures.printed)
+returns-in-Err g c = inr (c.print_plan_stop.ensures.lines, stop_line c.in-Err.fault c.print_plan_stop.ensures.lines c.print_plan_stop.ensures.said, c.print_plan_stop.ensures.printed)

@@ -13,7 +13,7 @@ returns-in-Ok-list_ways g c = inl (record {
 })
 
 pub returns-in-Err : goal.returns-in-Err
-returns-in-Err g c = inr (inl (record { stopped = c.in-Err.stop; is_stop = c.in-Err.ensures.stop; printed = c.print_stop.ensures }))
+returns-in-Err g c = inr (inl (record { stopped = c.in-Err.stop; is_stop = c.in-Err.ensures.stop; printed = c.print_plan_stop.ensures }))
 
 pub returns : goal.returns
 returns g c = inr (inr c.put_last-in-Err-list_ways.ensures)

@@ -16,12 +16,12 @@ invariant_of-result g c =
     let same = c.self.view_is ∙ sym c.of-of.ensures in
     let done = c.deliver-done.ensures in (
       done.0,
-      ended_at _ _ c.self.inside.threads.terms c.of-of.result.value.job.terms c.self.inside.carrier c.of-of.result.value.carrier done.0
-          (settings_of c.self.inside.threads.output).retry (settings_of c.of-of.result.value.job.output).retry (settings_of c.self.inside.threads.output).flush_thread_count
-          (settings_of c.of-of.result.value.job.output).flush_thread_count c.deliver-done.result.0
-          (ap (λ (p : PoolState). p.job.terms) same)
+      ended_at _ _ c.self.inside.threads.terms c.of-of.result.value.terms c.self.inside.carrier c.of-of.result.value.carrier done.0
+          (settings_of c.self.inside.threads.output).retry (settings_of c.of-of.result.value.output).retry (settings_of c.self.inside.threads.output).flush_thread_count
+          (settings_of c.of-of.result.value.output).flush_thread_count c.deliver-done.result.0
+          (ap (λ (p : PoolState). p.terms) same)
           (ap (λ (p : PoolState). p.carrier) same)
-          (ap (λ (p : PoolState). (settings_of p.job.output).retry) same)
-          (ap (λ (p : PoolState). (settings_of p.job.output).flush_thread_count) same)
+          (ap (λ (p : PoolState). (settings_of p.output).retry) same)
+          (ap (λ (p : PoolState). (settings_of p.output).flush_thread_count) same)
           done.1,
     )

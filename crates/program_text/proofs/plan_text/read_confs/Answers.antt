@@ -4,7 +4,7 @@ use Rattle.std.specs.declared.vec.Vec.{Vec}
 use Rattle.std.proofs.lemmas.List.{length-append, map_more, map_push, take_all}
 use Rattle.std.proofs.lemmas.List.Elements.{AllZip-push}
 use Rattle.program_text.specs.Texts.{IsTextOf}
-use Rattle.plan_answers.proofs.network.read_confs.Goals as goal
+use Rattle.program_text.proofs.plan_text.read_confs.Goals as goal
 
 pub loop-name-preserved : goal.loop-name-preserved
 loop-name-preserved g c =

@@ -2,7 +2,7 @@ use Rattle.std.proofs.Common.{◌≡◌, length, map, take}
 use Rattle.std.specs.List.{AllZip}
 use Rattle.plan_lines.specs.Plans.{texts as texts_of}
 use Rattle.program_text.specs.Texts.{IsTextOf}
-use Rattle.plan_answers.proofs.network.read_confs.Given as goal
+use Rattle.program_text.proofs.plan_text.read_confs.Given as goal
 
 abbrev pub invariant-loop-name : goal.invariant-loop-name
 invariant-loop-name g l = record {

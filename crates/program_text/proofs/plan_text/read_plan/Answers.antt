@@ -3,8 +3,8 @@ use Rattle.plan_lines.specs.Faults.{IsRefusal}
 use Rattle.plan_lines.specs.Forms.{confs_named}
 use Rattle.plan_lines.specs.Plans.{IsPlanOf, texts as texts_of}
 use Rattle.plan_lines.proofs.LinesRead.{bytes_of}
-use Rattle.plan_answers.proofs.NetworkSteps.{are_read, refused_stop}
-use Rattle.plan_answers.proofs.network.read_plan.Goals as goal
+use Rattle.program_text.proofs.PlanSteps.{are_read, refused_stop}
+use Rattle.program_text.proofs.plan_text.read_plan.Goals as goal
 
 pub returns-in-Ok-clause-plan : goal.returns-in-Ok-clause-plan
 returns-in-Ok-clause-plan g c =
@@ -31,13 +31,13 @@ returns g c =
     (subst (λ v. IsRefusal g.row.A.Denot c.deref-3.result.now (texts_of v) c.in-Err.fault) c.deref-4.ensures.value c.in-Err.ensures.refused) in
     record {
       plan = tt;
-      stop = refused_stop g.row.A.Denot (g.R.CountedRead.remaining c.args.net.now) (g.O.Open.text_of c.args.files.now) c.in-Err.fault c.stop_of.result
+      stop = refused_stop g.row.A.Denot (g.R.CountedRead.remaining c.args.net.now) (g.O.Open.text_of c.args.files.now) c.in-Err.fault c.plan_stop.result
           (record {
             text = text;
             confs = confs;
             read = are_read (g.R.CountedRead.remaining c.args.net.now) (g.O.Open.text_of c.args.files.now) text c.deref-2.result.now confs c.in_ok-text.ensures.whole names c.in_ok-confs.ensures.texts;
             refused = said;
           })
-          c.stop_of.ensures;
+          c.plan_stop.ensures;
       calls = c.in_ok-text.ensures.calls;
     }
