@@ -2,7 +2,9 @@
 use Rattle.std.specs.Prelude.{◌≡◌, ◌⊎◌, ℕ, List, ◌++◌, codes, Option}
 use Rattle.conf_text.specs.Grammar.{HasFault as HasTextFault}
 use Rattle.conf_text.specs.Printed.{fault_text as text_fault_text}
+use Rattle.conf_text.specs.declared.fault.ConfFault.{ConfFault}
 use Rattle.relay_conf.specs.Printed.{fault_text as relay_fault_text}
+use Rattle.relay_conf.specs.declared.fault.RelayFault.{RelayFault}
 use Rattle.relay_conf.specs.declared.relay.Relay.{Relay}
 use Rattle.plan_lines.specs.Plans.{IsRelayOfText}
 use Rattle.plan_lines.specs.Faults.{HasRelayFault}
@@ -52,8 +54,16 @@ pub record PrintsConfStop (stopped : ConfStop) (old new : Option (List ℕ))
   pub said : (lines ≡ stop_line stopped) ⊎ (lines ≡ memory_line)
   pub printed : IsPrinted old new lines Usage status
 
--- No relay is read, and the line that says why is printed.
-pub record PrintsNoRelay (conf old new : Option (List ℕ)) (status : Status) : Type 0 where
-  pub stopped : ConfStop
-  pub stop_is : IsConfStop conf stopped
-  pub prints : PrintsConfStop stopped old new status
+-- No relay is read, and why is printed: the first fault of the text, or of what it says; or that
+-- memory ran out, or that the reader failed.
+pub data PrintsNoRelay (conf old new : Option (List ℕ)) (status : Status) : Type 0 where
+  says_text_fault : (text : List ℕ) (fault : ConfFault) → IsTextOf conf text
+      → HasTextFault text fault.kind fault.line
+      → IsPrinted old new (line (codes "fault " ++ text_fault_text fault)) Usage status
+      → PrintsNoRelay conf old new status
+  says_relay_fault : (text : List ℕ) (fault : RelayFault) → IsTextOf conf text
+      → HasRelayFault text fault
+      → IsPrinted old new (line (codes "fault " ++ relay_fault_text fault)) Usage status
+      → PrintsNoRelay conf old new status
+  says_stop : (lines : List ℕ) → (lines ≡ memory_line) ⊎ (lines ≡ read_line)
+      → IsPrinted old new lines Usage status → PrintsNoRelay conf old new status

@@ -39,7 +39,7 @@ pub goes_on : (folder : List ℕ) (bound : BoundState heap.the_row.Denot) (relay
     → (map (λ job. job.output) jobs ≡ bound.outputs) × (map (λ job. job.terms) jobs ≡ relay.buffers)
     → ArePlaced (path_for folder) jobs → map placed_in relay.pools ≡ map placed_as jobs → All (IsCarried folder) relay.pools → Continues folder bound relay
 goes_on folder bound relay jobs same ports buffers own placed made carried =
-    let Q : Placed → Type 0 = λ p. p.1.1 ≡ path_for folder (settings_of p.0).kind in
+    let Q : Placed → Type 0 = λ p. p.2 ≡ path_for folder (settings_of p.0).kind in
     let at = unmap Q placed_in relay.pools (All-same Q (map placed_in relay.pools) (map placed_as jobs) made (All-map Q placed_as jobs placed)) in
     record {
       sources = same.0;
@@ -47,7 +47,7 @@ goes_on folder bound relay jobs same ports buffers own placed made carried =
       ports = ports;
       buffers = buffers;
       outputs = asked (λ p. p.0) relay.pools jobs made ∙ own.0;
-      shared = asked (λ p. p.1.0) relay.pools jobs made ∙ own.1;
+      shared = asked (λ p. p.1) relay.pools jobs made ∙ own.1;
       pools = λ k d lt. (at k d lt, carried k d lt);
     }
 
