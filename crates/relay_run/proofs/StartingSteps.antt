@@ -19,7 +19,8 @@ pub ended_by : (relay : RelayState) (old mid new : Option (List ℕ)) (fault : L
     → EndsBy relay (Some fault) → line ≡ fault_line fault → IsPrinted mid new line Usage status → PrintsEnd relay old new status
 ended_by relay old mid new fault line status ready by is printed = record {
   between = mid;
-  ready = ready;
+  unseen = ready.unseen;
+  ready = ready.takes;
   ended = Some fault;
   by = by;
   printed = subst (λ l. IsPrinted mid new l Usage status) is printed;
@@ -30,7 +31,8 @@ pub ended_well : (relay : RelayState) (old new : Option (List ℕ)) (ended : Opt
     → PrintsEnd relay old new Done
 ended_well relay old new ended ready by none = record {
   between = new;
-  ready = ready;
+  unseen = ready.unseen;
+  ready = ready.takes;
   ended = None;
   by = subst (EndsBy relay) none by;
   printed = ([], TakesPart-none new [], inl (refl, refl));

@@ -39,11 +39,13 @@ EndsBy relay ended = ((fault : Option LoopFault) × (pools : List PoolEnded)
     × (map (λ end. end.pool) pools ≡ relay.pools) × (ended ≡ first_fault fault pools))
     ⊎ (ended ≡ Some ends.Memory)
 
--- A relay that was open ended so: its own sources were printed, and behind these why it ended.
+-- A relay that was open ended so: its own sources were printed, or a beginning of their lines, and
+-- behind these why it ended.
 pub record PrintsEnd (relay : RelayState) (old new : Option (List ℕ))
     (status : Status) : Type 0 where
   pub between : Option (List ℕ)
-  pub ready : PrintsReady relay.ports old between
+  pub unseen : List ℕ
+  pub ready : TakesPart old between (ready_lines relay.ports) unseen
   pub ended : Option LoopFault
   pub by : EndsBy relay ended
   pub printed : IsPrinted between new (option_map_or fault_line ended [])

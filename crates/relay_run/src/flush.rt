@@ -53,13 +53,24 @@ const FILE_LIMITS: FileLimits = FileLimits {
 
 /// Carries chunks to servers, or to the files of a sink. Contracts see besides the folder as it was
 /// made for the sink, with its path.
-#[derive(Drop)]
 pub enum Carrier {
     Servers(TcpCourier<Connects, Global>),
     Sink {
         courier: SinkCourier<RealDir<HostRuntime, Global>, Global>,
         placed: Snapshot<Placed>,
     },
+}
+
+impl Drop for Carrier {
+    fn drop(self) {
+        match self {
+            Carrier::Servers(_) => (),
+            Carrier::Sink {
+                courier: _,
+                placed: _,
+            } => (),
+        }
+    }
 }
 
 impl<R: Wait + Net + Clock, D: Dir> Courier<R, D, Global> for Carrier {
@@ -82,13 +93,23 @@ impl<R: Wait + Net + Clock, D: Dir> Courier<R, D, Global> for Carrier {
 
 /// What one thread has that starts an output's flush threads, and what carries its chunks.
 /// Contracts see whose buffer it is, where that lies, and what carries its chunks.
-#[derive(Drop)]
 pub struct Pool {
     threads: FlushThreads<Folder, Global>,
     carrier: Carrier,
     stop: Arc<AtomicBool>,
     // Tells of the buffer's chunks.
     teller: Teller<Global>,
+}
+
+impl Drop for Pool {
+    fn drop(self) {
+        let Pool {
+            threads: _,
+            carrier: _,
+            stop: _,
+            teller: _,
+        } = self;
+    }
 }
 
 impl Model for Pool {

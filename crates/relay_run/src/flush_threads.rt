@@ -24,12 +24,22 @@ use std::time::Clock;
 
 /// A buffer, how many threads deliver its chunks, and how they retry, as its output says. Contracts
 /// see the job that it is made of.
-#[derive(Drop)]
 pub(crate) struct FlushThreads<D: Dir + Drop, A: Allocator> {
     buffer: Arc<SharedBuffer<D, A>, A>,
     count: usize,
     retry: RetrySettings,
     of: Snapshot<DeliveryJob<D, A>>,
+}
+
+impl<D: Dir + Drop, A: Allocator> Drop for FlushThreads<D, A> {
+    fn drop(self) {
+        let FlushThreads {
+            buffer: _,
+            count: _,
+            retry: _,
+            of: _,
+        } = self;
+    }
 }
 
 impl<D: Dir + Drop, A: Allocator> Model for FlushThreads<D, A> {
