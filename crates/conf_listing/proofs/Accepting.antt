@@ -1,8 +1,8 @@
--- Going over things until one fails a test.
-use Rattle.std.proofs.Common.{◌≡◌, ◌+◌, ◌<◌, ◌≤◌, ◌&&◌, ℕ, Bool, true, false, List, ap, drop, get_or, length, sym, ◌∙◌}
-use Rattle.std.specs.List.{list_all}
+-- Going over things until one fails a test, or passes it.
+use Rattle.std.proofs.Common.{◌≡◌, ◌+◌, ◌<◌, ◌≤◌, ◌&&◌, ◌||◌, ℕ, Bool, true, false, List, ap, drop, get_or, length, sym, ◌∙◌}
+use Rattle.std.specs.List.{list_all, list_any}
 use Rattle.std.proofs.lemmas.List.{at_drop_all, at_drop_more}
-use Rattle.std.proofs.lemmas.List.Folds.{list_all_at}
+use Rattle.std.proofs.lemmas.List.Folds.{list_all_at, list_any_at}
 
 -- one fails it
 pub one_fails : {X : Type 0} (p : X → Bool) (xs : List X) (i : ℕ) (x : X) → i < length xs → x ≡ get_or xs i x → p x ≡ false → false ≡ list_all p xs
@@ -15,3 +15,15 @@ one_more p xs i x less at passes so_far = sym (at_drop_more (list_all p) xs i x 
 -- all pass it
 pub all_pass : {X : Type 0} (p : X → Bool) (xs : List X) (i : ℕ) → length xs ≤ i → list_all p (drop i xs) ≡ list_all p xs → true ≡ list_all p xs
 all_pass p xs i past so_far = sym (at_drop_all (list_all p) xs i past) ∙ so_far
+
+-- one passes it
+pub one_passes : {X : Type 0} (p : X → Bool) (xs : List X) (i : ℕ) (x : X) → i < length xs → x ≡ get_or xs i x → p x ≡ true → true ≡ list_any p xs
+one_passes p xs i x less at passes = sym (list_any_at p xs i x less (ap p (sym at) ∙ passes))
+
+-- one more fails it
+pub none_more : {X : Type 0} (p : X → Bool) (xs : List X) (i : ℕ) (x : X) → i < length xs → x ≡ get_or xs i x → p x ≡ false → list_any p (drop i xs) ≡ list_any p xs → list_any p (drop (i + 1) xs) ≡ list_any p xs
+none_more p xs i x less at fails so_far = sym (at_drop_more (list_any p) xs i x less ∙ ap (λ b. b || list_any p (drop (i + 1) xs)) (ap p (sym at) ∙ fails)) ∙ so_far
+
+-- all fail it
+pub none_passes : {X : Type 0} (p : X → Bool) (xs : List X) (i : ℕ) → length xs ≤ i → list_any p (drop i xs) ≡ list_any p xs → false ≡ list_any p xs
+none_passes p xs i past so_far = sym (at_drop_all (list_any p) xs i past) ∙ so_far

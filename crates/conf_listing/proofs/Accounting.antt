@@ -45,6 +45,10 @@ rows_push : {A : Type 0} (es : List (Entry A)) (row : Row A) → all_stand_for (
 rows_push [] row = refl
 rows_push (e ∷ es) row = ap (λ (l : List Item). stands_for e ++ l) (rows_push es row) ∙ sym (append_assoc (stands_for e) (all_stand_for es) (item_of row ∷ []))
 
+-- the same, by what the row stands for
+pub row_more : {A : Type 0} (es new : List (Entry A)) (row : Row A) (i : Item) → item_of row ≡ i → new ≡ es ++ entry.Of row ∷ [] → all_stand_for new ≡ all_stand_for es ++ i ∷ []
+row_more es new row i made put = ap all_stand_for put ∙ rows_push es row ∙ ap (λ (y : Item). all_stand_for es ++ y ∷ []) made
+
 settings_push : (ss : List Setting) (s : Setting) → map parameter_item (ss ++ s ∷ []) ≡ map parameter_item ss ++ parameter_item s ∷ []
 settings_push [] s = refl
 settings_push (t ∷ ss) s = ap (λ (l : List Item). parameter_item t ∷ l) (settings_push ss s)

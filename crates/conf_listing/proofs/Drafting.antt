@@ -1,5 +1,5 @@
 -- From the draft of a configuration to what is said of it.
-use Rattle.std.proofs.Common.{◌≡◌, true, ℕ, List, Some, map, inr, subst}
+use Rattle.std.proofs.Common.{◌≡◌, ◌++◌, Bool, true, ℕ, List, Some, map, inr, ap, subst, sym, ◌∙◌}
 use Rattle.conf_text.specs.Grammar.{IsConfiguration}
 use Rattle.conf_text.specs.declared.element.Element.{Element}
 use Rattle.conf_text.specs.Views.{tree_of}
@@ -10,7 +10,10 @@ use Rattle.program_text.specs.declared.relay_text.ConfStop.{ConfStop}
 use Rattle.program_text.specs.declared.relay_text.ConfStop.TheVariants as stop
 use Rattle.conf_listing.specs.declared.draft.Draft.{Draft}
 use Rattle.conf_listing.specs.Adapting.{behind_mark, IsDraft, IsStopOfLines}
+use Rattle.conf_listing.specs.declared.adapted.Entry.{Entry}
 use Rattle.conf_listing.specs.Answers.{IsDraftOf, IsStopTo}
+use Rattle.conf_listing.specs.Lines.{AreLines, mark_note}
+use Rattle.conf_listing.specs.Printed.{printed_text}
 
 -- the relay that is read of known lines is theirs
 pub relay_of_lines : {A : Type 0} (lines : List ℕ) (relay : Relay A) → IsRelayRead (Some lines) relay → IsRelayOfText lines relay
@@ -31,3 +34,10 @@ pub unread_draft : {A : Type 0} (text : List ℕ) (names : List (List ℕ)) (dra
 unread_draft text names draft (stop.Text fault) is accepted unread = inr (record { draft = draft; draft_is = is; accepted = accepted; unread = unread })
 unread_draft text names draft (stop.Relay fault) is accepted unread = inr (record { draft = draft; draft_is = is; accepted = accepted; unread = unread })
 unread_draft text names draft (stop.Unread fault) is accepted unread = tt
+
+-- the lines of what is accepted
+pub accepted_lines : {A : Type 0} (is_accepted has_mark : Bool) (entries : List (Entry A)) (text note lines : List ℕ) → is_accepted ≡ true → text ≡ printed_text entries → note ≡ mark_note has_mark
+    → lines ≡ text ++ note → AreLines is_accepted entries lines
+accepted_lines is_accepted has_mark entries text note lines is text_is note_is lines_are =
+    subst (λ (b : Bool). AreLines b entries lines) (sym is)
+    (has_mark, lines_are ∙ ap (λ (t : List ℕ). t ++ note) text_is ∙ ap (λ (n : List ℕ). printed_text entries ++ n) note_is)

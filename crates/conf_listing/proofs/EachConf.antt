@@ -1,5 +1,5 @@
 -- Going over the configurations of a plan.
-use Rattle.std.proofs.Common.{◌≡◌, ◌+◌, ◌<◌, ◌≤◌, true, ℕ, List, [], ◌∷◌, ◌++◌, length, map, take, get_or, refl, sym, ap, subst, ◌∙◌, arith}
+use Rattle.std.proofs.Common.{◌≡◌, ◌⊎◌, inl, inr, ◌+◌, ◌<◌, ◌≤◌, true, ℕ, List, [], ◌∷◌, ◌++◌, length, map, take, get_or, refl, sym, ap, subst, ◌∙◌, append-nil, arith}
 use Rattle.std.specs.List.{AllZip, list_any}
 use Rattle.std.proofs.lemmas.List.{length-map, map_more, map_push, take_all, take_more}
 use Rattle.std.proofs.lemmas.Slice.Zip.{AllZip-long}
@@ -8,6 +8,7 @@ use Rattle.std.specs.Borrow.{Bor}
 use Rattle.std.specs.declared.vec.Vec.{Vec}
 use Rattle.plan_lines.specs.Plans.{texts}
 use Rattle.program_text.proofs.ListingSteps.{zip_push}
+use Rattle.program_text.specs.declared.relay_text.ConfStop.{ConfStop}
 use Rattle.conf_listing.specs.Answers.{IsAdapted}
 use Rattle.conf_listing.specs.Confs.{IsAdaptedConf}
 use Rattle.conf_listing.specs.Networks.{is_stopped, AddsListing, AreAdaptedTexts, AreListed, none, one_more, AreOutcomes, AreTextsOf, IsTextIn}
@@ -36,6 +37,12 @@ texts_more {A} outcomes i found before after text less at are is after_is =
     subst (λ (ts : List (List ℕ)). AreTextsOf (take (i + 1) outcomes) ts) (sym all)
     (subst (λ (os : List (AdaptedConf A)). AreTextsOf os (texts before ++ text.items ∷ [])) (sym whole)
     (zip_push IsTextIn (take i outcomes) (texts before) found text.items are is))
+
+-- one that isn't accepted, or has a fault, has no text
+pub has_no_text : {A : Type 0} (found : AdaptedConf A) → ((text : ConfText A) × (found ≡ outcome.Undecided text)) ⊎ ((stopped : ConfStop) × (found ≡ outcome.Faulty stopped))
+    → is_stopped found ≡ true
+has_no_text found (inl is) = ap is_stopped is.1
+has_no_text found (inr is) = ap is_stopped is.1
 
 -- where one has no text
 pub stopped_at : {A : Type 0} (outcomes : List (AdaptedConf A)) (i : ℕ) (found : AdaptedConf A) → i < length outcomes → found ≡ get_or outcomes i found → is_stopped found ≡ true
@@ -78,6 +85,10 @@ as_many {A} accepted confs outcomes are =
 -- the text of one that has a text
 pub text_in : {A : Type 0} (found : AdaptedConf A) (conf : ConfText A) (text : List ℕ) → found ≡ outcome.Text conf → text ≡ conf.text.items → IsTextIn found text
 text_in {A} found conf text is text_is = subst (λ (o : AdaptedConf A). IsTextIn o text) (sym is) text_is
+
+-- nothing is said of one that has a text
+pub lists_text : {A : Type 0} (name : List ℕ) (found : AdaptedConf A) (conf : ConfText A) (lines : List ℕ) → found ≡ outcome.Text conf → AddsListing name found lines lines
+lists_text {A} name found conf lines is = subst (λ (o : AdaptedConf A). AddsListing name o lines lines) (sym is) ([], refl, sym (append-nil lines))
 
 -- nothing is said of none
 pub listed_none : {A : Type 0} (names : List (Bor (List ℕ))) (outcomes : List (AdaptedConf A)) (lines : List ℕ) → lines ≡ [] → AreListed (map (λ n. n.now) (take 0 names)) (take 0 outcomes) lines

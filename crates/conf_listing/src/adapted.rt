@@ -4,6 +4,7 @@ ghost use Rattle.std.specs.Prelude.{◌≡◌, map, string_bytes, IfOk};
 ghost use Rattle.std.specs.List.{list_all};
 ghost use Rattle.conf_listing.specs.Printed.{all_accepted, entry_accepted, entry_text, is_among, printed_text};
 
+use crate::lines::{put_all, put_note};
 use std::alloc::{AllocError, Allocator};
 
 /// A section or a parameter of the original, and what stands for it.
@@ -143,22 +144,27 @@ fn text_of<A: Allocator>(entry: &Entry<A>) -> &[u8]
 
 // How many lines end in the text.
 fn lines_in(text: &[u8]) -> usize {
-    text.iter().filter(|byte| **byte == b'\n').count()
+    let mut lines = 0usize;
+    for byte in text {
+        if *byte == b'\n' {
+            lines = lines.saturating_add(1);
+        }
+    }
+    lines
 }
 
 /// Names that are lent.
-pub type Names<'a, A> = Vec<&'a Vec<u8, A>, A>;
+pub type Names<'a, A> = Vec<&'a [u8], A>;
 
 /// Adds the line that says what would accept all things of these names. The only error is want of
 /// memory.
 pub fn put_accepting<A: Allocator>(
-    names: &[&Vec<u8, A>],
+    names: &[&[u8]],
     lines: &mut Vec<u8, A>,
 ) -> Result<(), AllocError> {
     lines.extend_from_slice(b"accept by")?;
     for name in names {
-        lines.extend_from_slice(b" --accept ")?;
-        lines.extend_from_slice(name)?;
+        put_all(lines, &[b" --accept ", name])?;
     }
     lines.extend_from_slice(b"\n")
 }
@@ -190,14 +196,20 @@ fn put_row<'a, A: Allocator + Copy, B: Allocator>(
     for decision in &row.decisions {
         if !is_named(accepted, decision) {
             put_line(alloc, row, decision, lines)?;
-            if !names
-                .iter()
-                .any(|name| name.as_slice() == decision.as_slice())
-            {
-                names.push(decision)?;
-            }
+            add_name(decision, names)?;
         }
     }
+    Ok(())
+}
+
+// Adds a name, unless it is there.
+fn add_name<'a, A: Allocator>(name: &'a [u8], names: &mut Names<'a, A>) -> Result<(), AllocError> {
+    for one in names.iter() {
+        if *one == name {
+            return Ok(());
+        }
+    }
+    names.push(name)?;
     Ok(())
 }
 
@@ -208,15 +220,8 @@ fn put_line<A: Allocator + Copy>(
     name: &[u8],
     lines: &mut Vec<u8, A>,
 ) -> Result<(), AllocError> {
-    let line = row.line;
-    let place = format!(in alloc; " line {line}, ")?;
-    lines.extend_from_slice(b"undecided ")?;
-    lines.extend_from_slice(name)?;
-    lines.extend_from_slice(place.as_bytes())?;
-    lines.extend_from_slice(&row.subject)?;
-    lines.extend_from_slice(b": ")?;
-    lines.extend_from_slice(&row.note)?;
-    lines.extend_from_slice(b"\n")
+    put_all(lines, &[b"undecided ", name, b" "])?;
+    put_note(lines, alloc, row.line, &row.subject, &row.note)
 }
 
 // Whether all that has to be accepted of an entry is.

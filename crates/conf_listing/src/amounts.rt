@@ -3,7 +3,7 @@
 use std::alloc::{AllocError, Allocator};
 
 /// What is counted.
-#[derive(Clone, Copy, PartialEq, Eq)]
+#[derive(Clone, Copy)]
 pub(crate) enum Unit {
     Bytes,
     Seconds,
@@ -27,7 +27,7 @@ pub(crate) fn amount<A: Allocator + Copy>(
     text: &[u8],
     unit: Unit,
 ) -> Result<Option<Vec<u8, A>>, AllocError> {
-    let Some(found) = parts(text).and_then(|parts| value_of(parts, unit)) else {
+    let Some(found) = value_of(text, unit) else {
         return Ok(None);
     };
     let behind = match unit {
@@ -41,7 +41,7 @@ pub(crate) fn amount<A: Allocator + Copy>(
 
 // The number and the letter of the greatest unit of which a size is a multiple.
 fn shortened(value: u64, unit: Unit) -> (u64, &'static str) {
-    if unit != Unit::Bytes || value == 0 {
+    if !matches!(unit, Unit::Bytes) || value == 0 {
         return (value, "");
     }
     if value % (1 << 30) == 0 {
@@ -75,22 +75,30 @@ fn parts(text: &[u8]) -> Option<Spelled<'_>> {
 
 // The digits at the front, and what is behind them.
 fn split_digits(text: &[u8]) -> (&[u8], &[u8]) {
-    let digits = text.iter().take_while(|byte| byte.is_ascii_digit()).count();
-    text.split_at(digits)
+    for at in 0..text.len() {
+        if !text[at].is_ascii_digit() {
+            return text.split_at(at);
+        }
+    }
+    text.split_at(text.len())
 }
 
 fn skip_blanks(text: &[u8]) -> &[u8] {
-    let blanks = text.iter().take_while(|byte| **byte == b' ').count();
-    text.split_at(blanks).1
+    for at in 0..text.len() {
+        if text[at] != b' ' {
+            return text.split_at(at).1;
+        }
+    }
+    b""
 }
 
-// The bytes, the seconds or the number that is spelled.
-fn value_of(spelled: Spelled<'_>, unit: Unit) -> Option<u64> {
+// The bytes, the seconds or the number that a text spells.
+fn value_of(text: &[u8], unit: Unit) -> Option<u64> {
+    let spelled = parts(text)?;
     let factor = factor_of(spelled.unit, unit)?;
-    let whole = number(spelled.whole)?.checked_mul(factor)?;
-    let part = number(spelled.fraction)?.checked_mul(factor)?;
+    let part = number(spelled.fraction, factor)?;
     let scale = scale_of(spelled.fraction)?;
-    whole.checked_add(divided(part, scale, unit))
+    number(spelled.whole, factor)?.checked_add(divided(part, scale, unit))
 }
 
 // A part in whole units: a part of a byte is dropped, any other counts whole.
@@ -113,12 +121,12 @@ fn scale_of(digits: &[u8]) -> Option<u64> {
     Some(scale)
 }
 
-// The value of digits; none is 0.
-fn number(digits: &[u8]) -> Option<u64> {
+// The value of digits, so many times; none is 0.
+fn number(digits: &[u8], factor: u64) -> Option<u64> {
     if digits.is_empty() {
         return Some(0);
     }
-    conf_values::whole_number(digits)
+    conf_values::whole_number(digits)?.checked_mul(factor)
 }
 
 // What a unit's name multiplies by.

@@ -53,8 +53,11 @@ pub fn adapt_confs<A: Allocator + Copy, B: Allocator>(
         (map string_bytes accepted.now)) }
 {
     let outcomes = adapt_each(alloc, confs, accepted)?;
-    match texts_in(alloc, names, &outcomes)? {
-        Some(found) => Ok(AdaptedConfs::Texts(found)),
+    match texts_in(alloc, &outcomes)? {
+        Some(texts) => {
+            let noted = noted_in(alloc, names, &outcomes)?;
+            Ok(AdaptedConfs::Texts(ConfTexts { texts, noted }))
+        }
         None => Ok(AdaptedConfs::Stopped(stopped(alloc, names, &outcomes, accepted)?)),
     }
 }
@@ -79,27 +82,38 @@ fn adapt_each<A: Allocator + Copy, B: Allocator>(
 // The texts of all of them, unless one has none.
 fn texts_in<A: Allocator + Copy>(
     alloc: A,
-    names: &[&str],
     outcomes: &[AdaptedConf<A>],
-) -> Result<Option<ConfTexts<A>>, AllocError>
-    requires { length names.now ≡ length outcomes.now }
+) -> Result<Option<Vec<Vec<u8, A>, A>>, AllocError>
     ensures texts { IfOk result
-        (λ found. IfSome found (λ found. AreTextsOf outcomes.now (texts_of found.texts.items))) }
+        (λ found. IfSome found (λ texts. AreTextsOf outcomes.now (texts_of texts.items))) }
     ensures stopped { IfOk result
         (λ found. IfNone found (list_any is_stopped outcomes.now ≡ true)) }
 {
     let mut texts = Vec::new(alloc);
-    let mut noted = Vec::new(alloc);
-    for at in 0..outcomes.len() {
-        match &outcomes[at] {
-            AdaptedConf::Text(found) => {
-                texts.push(Vec::from_slice(alloc, &found.text)?)?;
-                noted.push(found.rows.noted_text(alloc, names[at])?)?;
-            }
+    for outcome in outcomes {
+        match outcome {
+            AdaptedConf::Text(found) => texts.push(Vec::from_slice(alloc, &found.text)?)?,
             AdaptedConf::Undecided(_) | AdaptedConf::Faulty(_) => return Ok(None),
         }
     }
-    Ok(Some(ConfTexts { texts, noted }))
+    Ok(Some(texts))
+}
+
+// The texts, each with the lines that it comes from.
+fn noted_in<A: Allocator + Copy>(
+    alloc: A,
+    names: &[&str],
+    outcomes: &[AdaptedConf<A>],
+) -> Result<Vec<Vec<u8, A>, A>, AllocError>
+    requires { length names.now ≡ length outcomes.now }
+{
+    let mut noted = Vec::new(alloc);
+    for at in 0..outcomes.len() {
+        if let AdaptedConf::Text(found) = &outcomes[at] {
+            noted.push(found.rows.noted_text(alloc, names[at])?)?;
+        }
+    }
+    Ok(noted)
 }
 
 // What is said of those that have no text.
@@ -135,7 +149,7 @@ fn stopped<A: Allocator + Copy, B: Allocator>(
 // The line that says what would accept all things of these names, if there are some.
 fn accepting_line<A: Allocator + Copy>(
     alloc: A,
-    names: &[&Vec<u8, A>],
+    names: &[&[u8]],
 ) -> Result<Vec<u8, A>, AllocError> {
     let mut line = Vec::new(alloc);
     if !names.is_empty() {
@@ -189,7 +203,12 @@ fn put_named<A: Allocator>(
 fn is_any_faulty<A: Allocator>(outcomes: &[AdaptedConf<A>]) -> bool
     ensures { result ≡ list_any is_faulty outcomes.now }
 {
-    outcomes.iter().any(|outcome| has_fault(outcome))
+    for outcome in outcomes {
+        if has_fault(outcome) {
+            return true;
+        }
+    }
+    false
 }
 
 // Whether it has a fault.

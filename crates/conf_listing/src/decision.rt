@@ -1,7 +1,7 @@
 //! What changes what a relay does, so that whoever runs it has to accept it.
 
 /// Something of Fluentd that a relay doesn't do.
-#[derive(Clone, Copy, PartialEq, Eq)]
+#[derive(Clone, Copy)]
 pub enum Decision {
     /// Encryption.
     Tls,

@@ -28,6 +28,10 @@ pub(crate) fn target<A: Allocator + Copy>(
 
 // Whether a label has this name.
 fn has_label<A: Allocator>(elements: &[Element<A>], name: &[u8]) -> bool {
-    elements.iter().any(|element| element.name.as_str() == "label"
-        && element.argument.as_bytes() == name)
+    for element in elements {
+        if element.name.as_str() == "label" && element.argument.as_bytes() == name {
+            return true;
+        }
+    }
+    false
 }

@@ -5,15 +5,57 @@ ghost use Rattle.conf_listing.specs.Items.{heading_text};
 
 use std::alloc::{AllocError, Allocator};
 
-/// Adds the blanks before a line in so many open sections.
-pub(crate) fn put_indent<A: Allocator>(
-    out: &mut Vec<u8, A>,
-    depth: usize,
-) -> Result<(), AllocError> {
+// Adds the blanks before a line in so many open sections.
+fn put_indent<A: Allocator>(out: &mut Vec<u8, A>, depth: usize) -> Result<(), AllocError> {
     for _ in 0..depth {
         out.extend_from_slice(b"  ")?;
     }
     Ok(())
+}
+
+/// Adds these pieces, one behind another.
+pub(crate) fn put_all<A: Allocator>(
+    out: &mut Vec<u8, A>,
+    pieces: &[&[u8]],
+) -> Result<(), AllocError> {
+    for piece in pieces {
+        out.extend_from_slice(piece)?;
+    }
+    Ok(())
+}
+
+/// The first text with the second behind it.
+pub(crate) fn joined<A: Allocator>(
+    alloc: A,
+    first: &[u8],
+    second: &[u8],
+) -> Result<Vec<u8, A>, AllocError> {
+    let mut both = Vec::from_slice(alloc, first)?;
+    both.extend_from_slice(second)?;
+    Ok(both)
+}
+
+/// Adds these pieces behind the blanks of so many open sections.
+pub(crate) fn put_within<A: Allocator>(
+    out: &mut Vec<u8, A>,
+    depth: usize,
+    pieces: &[&[u8]],
+) -> Result<(), AllocError> {
+    put_indent(out, depth)?;
+    put_all(out, pieces)
+}
+
+/// Adds what is said of a section or a parameter in this line of the original.
+pub(crate) fn put_note<'a, A: Allocator + Copy>(
+    out: &mut Vec<u8, A>,
+    alloc: A,
+    line: usize,
+    subject: &'a [u8],
+    note: &'a [u8],
+) -> Result<(), AllocError> {
+    let place = format!(in alloc; "line {line}, ")?;
+    out.extend_from_slice(place.as_bytes())?;
+    put_all(out, &[subject, b": ", note, b"\n"])
 }
 
 /// Adds a parameter's line.
@@ -23,25 +65,28 @@ pub(crate) fn put_setting<A: Allocator>(
     name: &[u8],
     value: &[u8],
 ) -> Result<(), AllocError> {
-    put_indent(out, depth)?;
-    out.extend_from_slice(name)?;
-    if !value.is_empty() {
-        out.extend_from_slice(b" ")?;
-        put_value(out, value)?;
-    }
+    put_within(out, depth, &[name])?;
+    put_value(out, value)?;
     out.extend_from_slice(b"\n")
 }
 
 /// Adds `<name argument>`.
-pub(crate) fn put_opening<A: Allocator>(
+pub(crate) fn put_opening<'a, A: Allocator>(
     out: &mut Vec<u8, A>,
     depth: usize,
-    name: &[u8],
-    argument: &[u8],
+    name: &'a [u8],
+    argument: &'a [u8],
 ) -> Result<(), AllocError> {
-    put_indent(out, depth)?;
-    put_heading(out, name, argument)?;
-    out.extend_from_slice(b"\n")
+    let blank = blank_before(argument);
+    put_within(out, depth, &[b"<", name, blank, argument, b">\n"])
+}
+
+// The blank between a name and what stands behind it, if something does.
+fn blank_before(text: &[u8]) -> &[u8] {
+    if text.is_empty() {
+        return b"";
+    }
+    b" "
 }
 
 /// Adds `<name argument>` without an end of the line.
@@ -67,14 +112,16 @@ pub(crate) fn put_end<A: Allocator>(
     depth: usize,
     name: &[u8],
 ) -> Result<(), AllocError> {
-    put_indent(out, depth)?;
-    out.extend_from_slice(b"</")?;
-    out.extend_from_slice(name)?;
-    out.extend_from_slice(b">\n")
+    put_within(out, depth, &[b"</", name, b">\n"])
 }
 
-// Adds a value, in quotes where it would be read as another without them.
+// Adds a value behind a blank, in quotes where it would be read as another without them; nothing of
+// an empty one.
 fn put_value<A: Allocator>(out: &mut Vec<u8, A>, value: &[u8]) -> Result<(), AllocError> {
+    if value.is_empty() {
+        return Ok(());
+    }
+    out.push(b' ')?;
     if has_control(value) {
         return put_quoted(out, b'"', value);
     }
@@ -91,15 +138,15 @@ fn is_plain(value: &[u8]) -> bool {
         [first, ..] => {
             !matches!(*first, b'"' | b'\'' | b'#' | b' ')
                 && value[value.len() - 1] != b' '
-                && !has_comment(value)
+                && !has_pair(value, b' ', b'#')
         }
     }
 }
 
-// Whether a `#` stands behind a space.
-fn has_comment(value: &[u8]) -> bool {
-    for i in 1..value.len() {
-        if value[i - 1] == b' ' && value[i] == b'#' {
+/// Whether the second byte stands in the text right behind the first.
+pub(crate) fn has_pair(text: &[u8], first: u8, second: u8) -> bool {
+    for i in 1..text.len() {
+        if text[i - 1] == first && text[i] == second {
             return true;
         }
     }

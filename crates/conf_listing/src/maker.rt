@@ -8,20 +8,19 @@ ghost use Rattle.conf_listing.specs.Items.{item_of, parameter_item, section_item
 use crate::adapted::Row;
 use crate::decision::Decision;
 use crate::labels::label_name;
-use crate::lines::{put_end, put_heading, put_indent, put_opening, put_setting};
+use crate::lines::{put_end, put_heading, put_opening, put_setting};
 use crate::near::nearest;
-use crate::notes::Notes;
+use crate::notes::{GONE, HARMLESS, Notes};
 use crate::openings::{Becomes, opening_of};
 use crate::paths::FileNames;
 use crate::patterns::patterns;
-use crate::place::{OutputKind, Place, Spot};
+use crate::place::{Place, Spot};
 use crate::rules::{Rule, buffer_name, rule_at, since_named};
-use crate::values::{Value, Values};
+use crate::values::Values;
 use conf_text::{Element, Pair};
 use conf_values::is_label_name;
 use relay_conf::{argument_of, line_of};
 use std::alloc::{AllocError, Allocator};
-use std::mem;
 
 /// Makes the row of one section or parameter after another.
 #[derive(Drop)]
@@ -58,9 +57,10 @@ impl<'a, A: Allocator + Copy> Maker<'a, A> {
         let subject = heading(alloc, element)?;
         let mut notes = Notes::new(alloc);
         let mut lines = Vec::new(alloc);
-        let place = open(alloc, spot, element, &mut notes, &mut lines)?;
+        let becomes = opening_of(spot.place, element);
+        put_section(alloc, spot, becomes, element, &mut notes, &mut lines)?;
         let row = notes.into_row(alloc, spot.depth, line_of(element), subject, &lines)?;
-        Ok((spot_in(spot, place, element), row))
+        Ok((spot_in(spot, becomes.place(), element), row))
     }
 
     /// The row of a parameter.
@@ -70,7 +70,8 @@ impl<'a, A: Allocator + Copy> Maker<'a, A> {
         let alloc = self.values.alloc;
         let subject = Vec::from_slice(alloc, pair.name.as_bytes())?;
         let mut notes = Notes::new(alloc);
-        let lines = self.setting(spot, pair, &mut notes)?;
+        let mut lines = Vec::new(alloc);
+        self.put_setting(spot, pair, &mut notes, &mut lines)?;
         notes.into_row(alloc, spot.depth, pair.line, subject, &lines)
     }
 
@@ -82,82 +83,54 @@ impl<'a, A: Allocator + Copy> Maker<'a, A> {
             return Ok(lines);
         }
         if matches!(inside.place, Place::Output(_)) && !self.moved.is_empty() {
-            let moved = mem::replace(&mut self.moved, Vec::new(alloc));
-            put_buffer(&mut lines, inside.depth, &moved)?;
+            put_buffer(&mut lines, inside.depth, &self.moved)?;
+            self.moved.clear();
         }
         put_end(&mut lines, inside.depth.saturating_sub(1), name)?;
         Ok(lines)
     }
 
-    // The lines that stand for a parameter.
-    fn setting(
+    // Adds the lines that stand for a parameter.
+    fn put_setting(
         &mut self,
         spot: Spot,
         pair: &Pair<A>,
         notes: &mut Notes<A>,
-    ) -> Result<Vec<u8, A>, AllocError> {
+        lines: &mut Vec<u8, A>,
+    ) -> Result<(), AllocError> {
         let name = pair.name.as_bytes();
-        if spot.place == Place::LeftOut {
-            notes.say(&[b"left out with the section round it"])?;
-            return Ok(Vec::new(self.values.alloc));
+        let value = pair.value.as_bytes();
+        match spot.place {
+            Place::LeftOut => notes.say(&[GONE]),
+            Place::Passed => self
+                .values
+                .put(spot.depth, Rule::Kept, name, value, notes, lines),
+            _ => self.put_placed(spot, pair, notes, lines),
         }
-        if spot.place == Place::Passed {
-            return self.placed(spot.depth, Rule::Kept, name, pair, notes);
-        }
+    }
+
+    // Adds the lines that stand for a parameter. One that has since stood in a buffer goes to the
+    // one that is added, unless there is one.
+    fn put_placed(
+        &mut self,
+        spot: Spot,
+        pair: &Pair<A>,
+        notes: &mut Notes<A>,
+        lines: &mut Vec<u8, A>,
+    ) -> Result<(), AllocError> {
+        let name = pair.name.as_bytes();
         if pair.name.as_str() == "retry_limit" {
             notes.decide(self.values.alloc, Decision::RetryLimit)?;
         }
         match buffer_name(spot.place, name) {
-            Some(new) => self.moved(spot, new, pair, notes),
-            None => self.named(spot, pair, notes),
-        }
-    }
-
-    // The lines that stand for a parameter, which may have got a new name.
-    fn named(
-        &mut self,
-        spot: Spot,
-        pair: &Pair<A>,
-        notes: &mut Notes<A>,
-    ) -> Result<Vec<u8, A>, AllocError> {
-        match since_named(spot.place, pair.name.as_bytes()) {
-            Some(new) => {
-                notes.say(&[b"it is `", new.as_bytes(), b"` now"])?;
-                self.ruled(spot, new.as_bytes(), pair, notes)
+            Some(_) if spot.has_buffer => {
+                notes.say(&[b"left out, it has no effect beside a `<buffer>`"])
             }
-            None => self.ruled(spot, pair.name.as_bytes(), pair, notes),
+            Some(new) => {
+                self.put_moved(spot.depth.saturating_add(1), new.as_bytes(), pair, notes)
+            }
+            None => self.put_named(spot, pair, notes, lines),
         }
-    }
-
-    // The lines that stand for a parameter which has this name.
-    fn ruled(
-        &mut self,
-        spot: Spot,
-        name: &[u8],
-        pair: &Pair<A>,
-        notes: &mut Notes<A>,
-    ) -> Result<Vec<u8, A>, AllocError> {
-        match rule_at(spot.place, name) {
-            Some(rule) => self.placed(spot.depth, rule, name, pair, notes),
-            None => self.unknown(spot, pair, notes),
-        }
-    }
-
-    // A parameter that has since stood in a buffer goes to the one that is added, unless there is
-    // one.
-    fn moved(
-        &mut self,
-        spot: Spot,
-        new: &'static str,
-        pair: &Pair<A>,
-        notes: &mut Notes<A>,
-    ) -> Result<Vec<u8, A>, AllocError> {
-        if spot.has_buffer {
-            notes.say(&[b"left out, it has no effect beside a `<buffer>`"])?;
-        } else {
-            self.put_moved(spot.depth.saturating_add(1), new.as_bytes(), pair, notes)?;
-        }
-        Ok(Vec::new(self.values.alloc))
     }
 
     // Adds the line of a parameter to the buffer that is added.
@@ -170,42 +143,58 @@ impl<'a, A: Allocator + Copy> Maker<'a, A> {
     ) -> Result<(), AllocError> {
         let rule = rule_at(Place::Buffer, name).unwrap_or(Rule::Harmless);
         notes.say(&[b"it is `", name, b"` in a `<buffer>` now"])?;
-        let lines = self.placed(depth, rule, name, pair, notes)?;
-        self.moved.extend_from_slice(&lines)
+        let value = pair.value.as_bytes();
+        self.values
+            .put(depth, rule, name, value, notes, &mut self.moved)
     }
 
-    // The line of a parameter under a name, by its rule.
-    fn placed(
-        &mut self,
-        depth: usize,
-        rule: Rule,
-        name: &[u8],
-        pair: &Pair<A>,
-        notes: &mut Notes<A>,
-    ) -> Result<Vec<u8, A>, AllocError> {
-        let mut lines = Vec::new(self.values.alloc);
-        match self.values.adapted(rule, pair.value.as_bytes(), notes)? {
-            Value::Is(value) => put_setting(&mut lines, depth, name, &value)?,
-            Value::Of(other, value) => put_setting(&mut lines, depth, other.as_bytes(), &value)?,
-            Value::Gone => (),
-        }
-        Ok(lines)
-    }
-
-    // A parameter that isn't known is left out, if that is accepted.
-    fn unknown(
+    // Adds the lines that stand for a parameter, which may have got a new name.
+    fn put_named(
         &mut self,
         spot: Spot,
         pair: &Pair<A>,
         notes: &mut Notes<A>,
-    ) -> Result<Vec<u8, A>, AllocError> {
-        let alloc = self.values.alloc;
-        notes.ask(alloc, pair.name.as_bytes())?;
-        notes.say(&[b"left out, no such parameter is known here"])?;
-        if let Some(known) = nearest(alloc, spot.place, pair.name.as_str())? {
-            notes.say(&[b"the nearest is `", known.as_bytes(), b"`"])?;
+        lines: &mut Vec<u8, A>,
+    ) -> Result<(), AllocError> {
+        match since_named(spot.place, pair.name.as_bytes()) {
+            Some(new) => {
+                notes.say(&[b"it is `", new.as_bytes(), b"` now"])?;
+                self.put_ruled(spot, new.as_bytes(), pair, notes, lines)
+            }
+            None => self.put_ruled(spot, pair.name.as_bytes(), pair, notes, lines),
         }
-        Ok(Vec::new(alloc))
+    }
+
+    // Adds the lines that stand for a parameter which has this name.
+    fn put_ruled(
+        &mut self,
+        spot: Spot,
+        name: &[u8],
+        pair: &Pair<A>,
+        notes: &mut Notes<A>,
+        lines: &mut Vec<u8, A>,
+    ) -> Result<(), AllocError> {
+        match rule_at(spot.place, name) {
+            Some(rule) => {
+                let value = pair.value.as_bytes();
+                self.values.put(spot.depth, rule, name, value, notes, lines)
+            }
+            None => say_unknown(self.values.alloc, spot.place, pair.name.as_str(), notes),
+        }
+    }
+}
+
+// A parameter that isn't known is left out, if that is accepted.
+fn say_unknown<A: Allocator + Copy>(
+    alloc: A,
+    place: Place,
+    name: &str,
+    notes: &mut Notes<A>,
+) -> Result<(), AllocError> {
+    notes.leave_unknown(alloc, name.as_bytes(), b"parameter")?;
+    match nearest(alloc, place, name)? {
+        Some(known) => notes.say(&[b"the nearest is `", known.as_bytes(), b"`"]),
+        None => Ok(()),
     }
 }
 
@@ -230,53 +219,26 @@ fn name_of<A: Allocator>(element: &Element<A>) -> &str
     element.name.as_str()
 }
 
-// Adds the lines of a section's opening, and says what the section is.
-fn open<A: Allocator + Copy>(
+// Adds the lines of a section's opening. The whole configuration has no line of its own.
+fn put_section<A: Allocator + Copy>(
     alloc: A,
     spot: Spot,
+    becomes: Becomes,
     element: &Element<A>,
     notes: &mut Notes<A>,
     lines: &mut Vec<u8, A>,
-) -> Result<Place, AllocError> {
-    match opening_of(spot.place, element) {
-        Becomes::Is(place) => put_as_it_was(spot, place, element, lines),
-        Becomes::Match(place) => put_adapted(alloc, spot, place, element, notes, lines),
-        Becomes::Store(place) => put_adapted(alloc, spot, place, element, notes, lines),
-        Becomes::Label => put_adapted(alloc, spot, Place::Label, element, notes, lines),
-        Becomes::Buffer => put_adapted(alloc, spot, Place::Buffer, element, notes, lines),
+) -> Result<(), AllocError> {
+    let name = element.name.as_bytes();
+    match becomes {
+        Becomes::Is(Place::Outside) => Ok(()),
+        Becomes::Is(_) => put_opening(lines, spot.depth, name, element.argument.as_bytes()),
+        Becomes::Adapted(_) => put_adapted(alloc, spot, element, notes, lines),
         Becomes::Null => put_null(alloc, spot, element, notes, lines),
-        Becomes::Gone => left_out(notes, b"left out with the section round it"),
-        Becomes::Harmless => left_out(notes, b"left out, it has no bearing on loss"),
-        Becomes::Decided(decision) => left_out_if(alloc, decision, notes),
-        Becomes::Unknown => left_out_unknown(alloc, element.name.as_bytes(), notes),
+        Becomes::Gone => notes.say(&[GONE]),
+        Becomes::Harmless => notes.say(&[HARMLESS]),
+        Becomes::Decided(decision) => notes.leave_out(alloc, decision),
+        Becomes::Unknown => notes.leave_unknown(alloc, name, b"section"),
     }
-}
-
-// A section stands as it was; the whole configuration has no line of its own.
-fn put_as_it_was<A: Allocator>(
-    spot: Spot,
-    place: Place,
-    element: &Element<A>,
-    lines: &mut Vec<u8, A>,
-) -> Result<Place, AllocError> {
-    if place != Place::Outside {
-        let argument = element.argument.as_bytes();
-        put_opening(lines, spot.depth, element.name.as_bytes(), argument)?;
-    }
-    Ok(place)
-}
-
-// A section stands, with the argument that the profile has for it.
-fn put_adapted<A: Allocator + Copy>(
-    alloc: A,
-    spot: Spot,
-    place: Place,
-    element: &Element<A>,
-    notes: &mut Notes<A>,
-    lines: &mut Vec<u8, A>,
-) -> Result<Place, AllocError> {
-    put_argument(alloc, spot, element, notes, lines)?;
-    Ok(place)
 }
 
 // An output of a type that no relay has becomes one that drops what it takes.
@@ -286,12 +248,11 @@ fn put_null<A: Allocator + Copy>(
     element: &Element<A>,
     notes: &mut Notes<A>,
     lines: &mut Vec<u8, A>,
-) -> Result<Place, AllocError> {
+) -> Result<(), AllocError> {
     notes.decide(alloc, Decision::OutputType)?;
-    put_argument(alloc, spot, element, notes, lines)?;
+    put_adapted(alloc, spot, element, notes, lines)?;
     put_setting(lines, spot.depth.saturating_add(1), b"@type", b"null")?;
-    put_end(lines, spot.depth, element.name.as_bytes())?;
-    Ok(Place::LeftOut)
+    put_end(lines, spot.depth, element.name.as_bytes())
 }
 
 // Adds a buffer with these lines.
@@ -305,52 +266,31 @@ fn put_buffer<A: Allocator>(
     put_end(lines, depth, b"buffer")
 }
 
-// A section is left out, if that is accepted.
-fn left_out_if<A: Allocator + Copy>(
-    alloc: A,
-    decision: Decision,
-    notes: &mut Notes<A>,
-) -> Result<Place, AllocError> {
-    notes.say(&[b"left out"])?;
-    notes.decide(alloc, decision)?;
-    Ok(Place::LeftOut)
-}
-
-// A section that isn't known there is left out, if that is accepted.
-fn left_out_unknown<A: Allocator + Copy>(
-    alloc: A,
-    name: &[u8],
-    notes: &mut Notes<A>,
-) -> Result<Place, AllocError> {
-    notes.ask(alloc, name)?;
-    left_out(notes, b"left out, no such section is known here")
-}
-
-// A section is left out.
-fn left_out<A: Allocator + Copy>(notes: &mut Notes<A>, why: &[u8]) -> Result<Place, AllocError> {
-    notes.say(&[why])?;
-    Ok(Place::LeftOut)
-}
-
 // What may stand in a section of this place.
 fn spot_in<A: Allocator>(round: Spot, place: Place, element: &Element<A>) -> Spot {
     let depth = match place {
         Place::Outside | Place::LeftOut => round.depth,
         _ => round.depth.saturating_add(1),
     };
-    let has_buffer = element
-        .children
-        .iter()
-        .any(|child| child.name.as_str() == "buffer");
     Spot {
         place,
         depth,
-        has_buffer,
+        has_buffer: has_buffer(element),
     }
 }
 
+// Whether a `<buffer>` stands in a section.
+fn has_buffer<A: Allocator>(element: &Element<A>) -> bool {
+    for child in &element.children {
+        if child.name.as_str() == "buffer" {
+            return true;
+        }
+    }
+    false
+}
+
 // Adds the opening of a section with the argument that the profile has for it.
-fn put_argument<A: Allocator + Copy>(
+fn put_adapted<A: Allocator + Copy>(
     alloc: A,
     spot: Spot,
     element: &Element<A>,
@@ -364,20 +304,24 @@ fn put_argument<A: Allocator + Copy>(
     put_opening(lines, spot.depth, element.name.as_bytes(), &argument)
 }
 
-// The argument that the profile has for that of a section.
+// The argument that the profile has for that of a match, a label, a store or a buffer.
 fn adapted_argument<A: Allocator + Copy>(
     alloc: A,
     element: &Element<A>,
     notes: &mut Notes<A>,
 ) -> Result<Vec<u8, A>, AllocError> {
+    let name = element.name.as_str();
     let old = element.argument.as_bytes();
-    match element.name.as_bytes() {
-        b"match" => patterns(alloc, element.argument.as_str(), notes),
-        b"label" => label_argument(alloc, old, notes),
-        b"store" => store_argument(alloc, old, notes),
-        b"buffer" => buffer_argument(alloc, old, notes),
-        _ => Vec::from_slice(alloc, old),
+    if name == "match" {
+        return patterns(alloc, element.argument.as_str(), notes);
     }
+    if name == "label" {
+        return label_argument(alloc, old, notes);
+    }
+    if name == "store" {
+        return store_argument(alloc, old, notes);
+    }
+    buffer_argument(alloc, old, notes)
 }
 
 // The name that the profile has for that of a label.
@@ -399,13 +343,11 @@ fn store_argument<A: Allocator + Copy>(
     old: &[u8],
     notes: &mut Notes<A>,
 ) -> Result<Vec<u8, A>, AllocError> {
-    match old {
-        b"ignore_error" => {
-            notes.decide(alloc, Decision::IgnoreError)?;
-            Ok(Vec::new(alloc))
-        }
-        _ => Vec::from_slice(alloc, old),
+    if old == b"ignore_error".as_slice() {
+        notes.decide(alloc, Decision::IgnoreError)?;
+        return Ok(Vec::new(alloc));
     }
+    Vec::from_slice(alloc, old)
 }
 
 // The argument of a buffer: its chunks are by tag alone.
@@ -414,11 +356,9 @@ fn buffer_argument<A: Allocator + Copy>(
     old: &[u8],
     notes: &mut Notes<A>,
 ) -> Result<Vec<u8, A>, AllocError> {
-    match old {
-        b"" | b"tag" => Vec::from_slice(alloc, old),
-        _ => {
-            notes.say(&[b"chunks are by tag alone"])?;
-            Vec::from_slice(alloc, b"tag")
-        }
+    if old.is_empty() || old == b"tag".as_slice() {
+        return Vec::from_slice(alloc, old);
     }
+    notes.say(&[b"chunks are by tag alone"])?;
+    Vec::from_slice(alloc, b"tag")
 }

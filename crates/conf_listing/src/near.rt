@@ -1,7 +1,7 @@
 //! The known name that is nearest to one that isn't known.
 
 use crate::place::Place;
-use crate::rules::{groups_of, moved_from};
+use crate::rules::{Group, inside_of, moved_from};
 use crate::tables::ANYWHERE;
 use std::alloc::{AllocError, Allocator};
 use strsim::levenshtein;
@@ -19,13 +19,8 @@ pub(crate) fn nearest<A: Allocator + Copy>(
         name: None,
         edits: MOST_EDITS.min(name.len() / 2).saturating_add(1),
     };
-    for groups in [groups_of(place), &ANYWHERE] {
-        for group in groups {
-            for known in group.names {
-                best.try_name(alloc, name, known)?;
-            }
-        }
-    }
+    best.try_groups(alloc, name, inside_of(place).groups)?;
+    best.try_groups(alloc, name, &ANYWHERE)?;
     for renamed in moved_from(place) {
         best.try_name(alloc, name, renamed.old)?;
     }
@@ -41,6 +36,21 @@ struct Best {
 }
 
 impl Best {
+    // Takes each of these names that is nearer to the name than all before it.
+    fn try_groups<A: Allocator + Copy>(
+        &mut self,
+        alloc: A,
+        name: &str,
+        groups: &'static [Group],
+    ) -> Result<(), AllocError> {
+        for group in groups {
+            for known in group.names {
+                self.try_name(alloc, name, known)?;
+            }
+        }
+        Ok(())
+    }
+
     // Takes a known name, if it is nearer to the name.
     fn try_name<A: Allocator + Copy>(
         &mut self,

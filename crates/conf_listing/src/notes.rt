@@ -5,9 +5,15 @@ ghost use Rattle.conf_listing.specs.Items.{item, item_of};
 
 use crate::adapted::Row;
 use crate::decision::Decision;
-use crate::lines::put_indent;
+use crate::lines::{put_note, put_within};
 use crate::paths::is_listed;
 use std::alloc::{AllocError, Allocator};
+
+/// What is said of what stands in a section that is left out.
+pub(crate) const GONE: &[u8] = b"left out with the section round it";
+
+/// What is said of what is left out, where nothing is lost by that.
+pub(crate) const HARMLESS: &[u8] = b"left out, it has no bearing on loss";
 
 /// What is said of a section or a parameter, and by which names it has to be accepted.
 #[derive(Drop)]
@@ -45,8 +51,20 @@ impl<A: Allocator + Copy> Notes<A> {
         self.say(&[decision.sentence().as_bytes()])
     }
 
-    /// Has it accepted by this name.
-    pub fn ask(&mut self, alloc: A, name: &[u8]) -> Result<(), AllocError> {
+    /// Says that it is left out, if that is accepted.
+    pub fn leave_out(&mut self, alloc: A, decision: Decision) -> Result<(), AllocError> {
+        self.say(&[b"left out"])?;
+        self.decide(alloc, decision)
+    }
+
+    /// Says that it is left out, as nothing of its name is known there, if that is accepted.
+    pub fn leave_unknown(&mut self, alloc: A, name: &[u8], kind: &[u8]) -> Result<(), AllocError> {
+        self.ask(alloc, name)?;
+        self.say(&[b"left out, no such ", kind, b" is known here"])
+    }
+
+    // Has it accepted by this name.
+    fn ask(&mut self, alloc: A, name: &[u8]) -> Result<(), AllocError> {
         self.decisions.push(Vec::from_slice(alloc, name)?)?;
         Ok(())
     }
@@ -90,13 +108,8 @@ impl<A: Allocator + Copy> Notes<A> {
         subject: &[u8],
         out: &mut Vec<u8, A>,
     ) -> Result<(), AllocError> {
-        put_indent(out, depth)?;
-        let front = format!(in alloc; "# line {line}, ")?;
-        out.extend_from_slice(front.as_bytes())?;
-        out.extend_from_slice(subject)?;
-        out.extend_from_slice(b": ")?;
-        out.extend_from_slice(&self.said)?;
-        out.extend_from_slice(b"\n")
+        put_within(out, depth, &[b"# "])?;
+        put_note(out, alloc, line, subject, &self.said)
     }
 }
 

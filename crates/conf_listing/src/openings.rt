@@ -2,6 +2,7 @@
 
 use crate::decision::Decision;
 use crate::place::{OutputKind, Place};
+use crate::rules::{inside_of, is_among};
 use conf_text::Element;
 use std::alloc::Allocator;
 
@@ -10,16 +11,10 @@ use std::alloc::Allocator;
 pub(crate) enum Becomes {
     /// It stands as this section.
     Is(Place),
-    /// It stands, with its patterns.
-    Match(Place),
+    /// It stands as this section, with the argument that the profile has for it.
+    Adapted(Place),
     /// It is a match or a store of a type that no relay has.
     Null,
-    /// It stands, by its name.
-    Label,
-    /// It stands, unless its failures don't count.
-    Store(Place),
-    /// It stands, with the tag as chunk key.
-    Buffer,
     /// It is left out with the section that it stands in.
     Gone,
     /// It has no bearing on loss, and is left out.
@@ -30,37 +25,61 @@ pub(crate) enum Becomes {
     Unknown,
 }
 
+impl Becomes {
+    /// What the section is.
+    pub fn place(self) -> Place {
+        match self {
+            Becomes::Is(place) | Becomes::Adapted(place) => place,
+            _ => Place::LeftOut,
+        }
+    }
+}
+
+/// What says what becomes of a section of a known name.
+#[derive(Clone, Copy)]
+pub(crate) enum Opening {
+    /// Its name alone.
+    Named(Becomes),
+    /// The type of what takes events in.
+    Source,
+    /// The type of what events go out to.
+    Output,
+    /// Whether its connections are plain.
+    Transport,
+}
+
+/// A section that may stand in a place.
+pub(crate) struct Section {
+    pub name: &'static str,
+    pub opening: Opening,
+}
+
 /// What becomes of a section in this place.
 pub(crate) fn opening_of<A: Allocator>(parent: Place, element: &Element<A>) -> Becomes {
-    let name = element.name.as_bytes();
     match parent {
         Place::LeftOut => Becomes::Gone,
         Place::Passed => Becomes::Is(Place::Passed),
-        Place::Top => at_top(name, element),
-        Place::Label => in_label(name, element),
-        Place::Source => in_source(name, element),
-        Place::Output(kind) => in_output(kind, name, element),
-        Place::Security => in_security(name),
-        Place::Outside | Place::Server | Place::Buffer => Becomes::Unknown,
+        _ => known_opening(inside_of(parent).sections, element),
     }
 }
 
-fn at_top<A: Allocator>(name: &[u8], element: &Element<A>) -> Becomes {
-    match name {
-        b"" => Becomes::Is(Place::Outside),
-        b"source" => source(kind_of(element)),
-        b"label" => Becomes::Label,
-        b"system" => Becomes::Is(Place::Passed),
-        b"worker" => Becomes::Decided(Decision::Worker),
-        _ => in_label(name, element),
+// What becomes of a section where these may stand.
+fn known_opening<A: Allocator>(sections: &[Section], element: &Element<A>) -> Becomes {
+    for section in sections {
+        if section.name == element.name.as_str() {
+            return opened(section.opening, element);
+        }
     }
+    Becomes::Unknown
 }
 
-fn in_label<A: Allocator>(name: &[u8], element: &Element<A>) -> Becomes {
-    match name {
-        b"match" => matching(kind_of(element)),
-        b"filter" => Becomes::Decided(Decision::Filter),
-        _ => Becomes::Unknown,
+// What becomes of a section, where this says it.
+fn opened<A: Allocator>(opening: Opening, element: &Element<A>) -> Becomes {
+    match opening {
+        Opening::Named(becomes) => becomes,
+        Opening::Source => source(kind_of(element)),
+        Opening::Output => output(kind_of(element)),
+        Opening::Transport => transport(element.argument.as_bytes()),
     }
 }
 
@@ -68,8 +87,8 @@ fn in_label<A: Allocator>(name: &[u8], element: &Element<A>) -> Becomes {
 fn source(kind: Option<&[u8]>) -> Becomes {
     match kind {
         None => Becomes::Is(Place::Passed),
-        Some(b"forward") => Becomes::Is(Place::Source),
-        Some(kind) if is_watcher(kind) => Becomes::Harmless,
+        Some(kind) if kind == b"forward".as_slice() => Becomes::Is(Place::Source),
+        Some(kind) if is_among(&WATCHERS, kind) => Becomes::Harmless,
         Some(_) => Becomes::Decided(Decision::SourceType),
     }
 }
@@ -83,66 +102,23 @@ static WATCHERS: [&str; 5] = [
     "prometheus_output_monitor",
 ];
 
-fn is_watcher(kind: &[u8]) -> bool {
-    for watcher in &WATCHERS {
-        if kind == watcher.as_bytes() {
-            return true;
-        }
-    }
-    false
-}
-
-// A match. One without a type is left for the reader to refuse.
-fn matching(kind: Option<&[u8]>) -> Becomes {
+// A match or a store. One without a type is left for the reader to refuse.
+fn output(kind: Option<&[u8]>) -> Becomes {
     match kind {
-        None => Becomes::Match(Place::Passed),
+        None => Becomes::Adapted(Place::Passed),
         Some(kind) => match OutputKind::named(kind) {
-            Some(kind) => Becomes::Match(Place::Output(kind)),
+            Some(kind) => Becomes::Adapted(Place::Output(kind)),
             None => Becomes::Null,
         },
     }
 }
 
-fn store(kind: Option<&[u8]>) -> Becomes {
-    match kind {
-        None => Becomes::Store(Place::Passed),
-        Some(kind) => match OutputKind::named(kind) {
-            Some(kind) => Becomes::Store(Place::Output(kind)),
-            None => Becomes::Null,
-        },
+// How a source's connections are protected.
+fn transport(argument: &[u8]) -> Becomes {
+    if argument == b"tcp".as_slice() {
+        return Becomes::Harmless;
     }
-}
-
-fn in_source<A: Allocator>(name: &[u8], element: &Element<A>) -> Becomes {
-    match name {
-        b"security" => Becomes::Is(Place::Security),
-        b"transport" if element.argument.as_str() == "tcp" => Becomes::Harmless,
-        b"transport" => Becomes::Decided(Decision::Tls),
-        _ => Becomes::Unknown,
-    }
-}
-
-fn in_output<A: Allocator>(kind: OutputKind, name: &[u8], element: &Element<A>) -> Becomes {
-    match (kind, name) {
-        (OutputKind::Copy, b"store") => store(kind_of(element)),
-        (OutputKind::Forward, b"server") => Becomes::Is(Place::Server),
-        (OutputKind::Forward, b"security") => Becomes::Is(Place::Security),
-        (OutputKind::Forward | OutputKind::File, b"buffer") => Becomes::Buffer,
-        (OutputKind::Forward | OutputKind::File, b"secondary") => {
-            Becomes::Decided(Decision::Secondary)
-        }
-        (OutputKind::Forward | OutputKind::File, b"format") => Becomes::Decided(Decision::Format),
-        (OutputKind::Forward | OutputKind::File, b"inject") => Becomes::Decided(Decision::Inject),
-        _ => Becomes::Unknown,
-    }
-}
-
-fn in_security(name: &[u8]) -> Becomes {
-    match name {
-        b"user" => Becomes::Decided(Decision::Users),
-        b"client" => Becomes::Decided(Decision::Clients),
-        _ => Becomes::Unknown,
-    }
+    Becomes::Decided(Decision::Tls)
 }
 
 // The type of a section, by the last line that says one.

@@ -1,5 +1,6 @@
 //! Names of files in a relay's folder, in place of ways through folders.
 
+use crate::lines::joined;
 use conf_values::is_path;
 use std::alloc::{AllocError, Allocator};
 
@@ -22,31 +23,35 @@ impl<A: Allocator + Copy> FileNames<A> {
     /// A name of its own for the files at this way: the last part of the way, with `_` in place of
     /// what no name has, and a number behind it where that name is taken.
     pub fn give(&mut self, alloc: A, way: &[u8]) -> Result<Vec<u8, A>, AllocError> {
-        let name = own_name(alloc, way)?;
-        let name = self.untaken(alloc, name)?;
+        let own = own_name(alloc, way)?;
+        let name = self.untaken(alloc, &own)?;
         self.taken.push(Vec::from_slice(alloc, &name)?)?;
         Ok(name)
     }
 
     // The name, with a number behind it if it is taken.
-    fn untaken(&self, alloc: A, name: Vec<u8, A>) -> Result<Vec<u8, A>, AllocError> {
-        if !self.is_taken(&name) {
-            return Ok(name);
-        }
-        for number in 2..u32::MAX {
-            let behind = format!(in alloc; "_{number}")?;
-            let mut other = Vec::from_slice(alloc, front(&name))?;
-            other.extend_from_slice(behind.as_bytes())?;
-            if !self.is_taken(&other) {
+    fn untaken(&self, alloc: A, name: &[u8]) -> Result<Vec<u8, A>, AllocError> {
+        for number in 1..u32::MAX {
+            let other = numbered(alloc, name, number)?;
+            if !is_listed(&self.taken, &other) {
                 return Ok(other);
             }
         }
-        Ok(name)
+        Vec::from_slice(alloc, name)
     }
+}
 
-    fn is_taken(&self, name: &[u8]) -> bool {
-        is_listed(&self.taken, name)
+// The name with a number behind it: the first has none.
+fn numbered<A: Allocator + Copy>(
+    alloc: A,
+    name: &[u8],
+    number: u32,
+) -> Result<Vec<u8, A>, AllocError> {
+    if number == 1 {
+        return Vec::from_slice(alloc, name);
     }
+    let behind = format!(in alloc; "_{number}")?;
+    joined(alloc, front(name), behind.as_bytes())
 }
 
 /// Whether the name is one of these.
@@ -64,16 +69,20 @@ fn own_name<A: Allocator + Copy>(alloc: A, way: &[u8]) -> Result<Vec<u8, A>, All
     if is_path(way) {
         return Vec::from_slice(alloc, way);
     }
-    let mut name = Vec::new(alloc);
-    for byte in front(last_part(way)) {
-        name.push(if is_name_byte(*byte) { *byte } else { b'_' })?;
-    }
+    let name = as_name(alloc, front(last_part(way)))?;
     if is_path(&name) {
         return Ok(name);
     }
-    let mut other = Vec::from_slice(alloc, b"files")?;
-    other.extend_from_slice(&name)?;
-    Ok(other)
+    joined(alloc, b"files", &name)
+}
+
+// A text with `_` in place of what no name has.
+fn as_name<A: Allocator>(alloc: A, text: &[u8]) -> Result<Vec<u8, A>, AllocError> {
+    let mut name = Vec::new(alloc);
+    for byte in text {
+        name.push(if is_name_byte(*byte) { *byte } else { b'_' })?;
+    }
+    Ok(name)
 }
 
 // The beginning of a name, to which something may be added.

@@ -1,7 +1,7 @@
 //! The patterns of a match.
 
 use crate::decision::Decision;
-use crate::lines::has_any_of;
+use crate::lines::{has_any_of, has_pair};
 use crate::notes::Notes;
 use std::alloc::{AllocError, Allocator};
 use tag_pattern::{Pattern, PatternError};
@@ -107,18 +107,8 @@ fn wide_part(part: &[u8]) -> &[u8] {
     if !has_any_of(part, b"*{},.") {
         return part;
     }
-    if part.contains(&b'.') || has_two_stars(part) {
+    if part.contains(&b'.') || has_pair(part, b'*', b'*') {
         return b"**";
     }
     b"*"
-}
-
-// Whether `**` stands in a part.
-fn has_two_stars(part: &[u8]) -> bool {
-    for i in 1..part.len() {
-        if part[i - 1] == b'*' && part[i] == b'*' {
-            return true;
-        }
-    }
-    false
 }

@@ -1,7 +1,7 @@
 //! Where a section or a parameter stands.
 
 /// The types of outputs that a relay has.
-#[derive(Clone, Copy, PartialEq, Eq)]
+#[derive(Clone, Copy)]
 pub(crate) enum OutputKind {
     Forward,
     File,
@@ -10,22 +10,49 @@ pub(crate) enum OutputKind {
     Null,
 }
 
+// A type of outputs, by its name.
+struct Output {
+    name: &'static str,
+    kind: OutputKind,
+}
+
+static OUTPUTS: [Output; 5] = [
+    Output {
+        name: "forward",
+        kind: OutputKind::Forward,
+    },
+    Output {
+        name: "file",
+        kind: OutputKind::File,
+    },
+    Output {
+        name: "copy",
+        kind: OutputKind::Copy,
+    },
+    Output {
+        name: "relabel",
+        kind: OutputKind::Relabel,
+    },
+    Output {
+        name: "null",
+        kind: OutputKind::Null,
+    },
+];
+
 impl OutputKind {
     /// The type of this name, if a relay has it.
     pub fn named(name: &[u8]) -> Option<OutputKind> {
-        match name {
-            b"forward" => Some(OutputKind::Forward),
-            b"file" => Some(OutputKind::File),
-            b"copy" => Some(OutputKind::Copy),
-            b"relabel" => Some(OutputKind::Relabel),
-            b"null" => Some(OutputKind::Null),
-            _ => None,
+        for output in &OUTPUTS {
+            if output.name.as_bytes() == name {
+                return Some(output.kind);
+            }
         }
+        None
     }
 }
 
 /// What a section is, by its name, its type and where it stands.
-#[derive(Clone, Copy, PartialEq, Eq)]
+#[derive(Clone, Copy)]
 pub(crate) enum Place {
     /// The whole configuration.
     Top,

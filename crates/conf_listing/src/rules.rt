@@ -1,10 +1,11 @@
 //! What may become of a parameter.
 
 use crate::decision::Decision;
+use crate::openings::Section;
 use crate::place::{OutputKind, Place};
 use crate::tables::{
-    ANYWHERE, BUFFER, COPY, FILE, FORWARD, NULL, OLD_BUFFER, OLD_NAMES, RELABEL, SECURITY, SERVER,
-    SOURCE,
+    ANYWHERE, BUFFER, COPY, FILE, FORWARD, LABEL, NOTHING, NULL, OLD_BUFFER, OLD_NAMES, RELABEL,
+    SECURITY, SERVER, SOURCE, TOP,
 };
 
 /// What becomes of a parameter, by its name and place.
@@ -46,6 +47,12 @@ pub(crate) struct Group {
     pub rule: Rule,
 }
 
+/// What may stand in a place, beside what may stand anywhere.
+pub(crate) struct Inside {
+    pub sections: &'static [Section],
+    pub groups: &'static [Group],
+}
+
 /// A parameter that has another name in the profile.
 pub(crate) struct Renamed {
     pub old: &'static str,
@@ -56,13 +63,15 @@ pub(crate) struct Renamed {
 pub(crate) fn rule_at(place: Place, name: &[u8]) -> Option<Rule> {
     match rule_in(&ANYWHERE, name) {
         Some(rule) => Some(rule),
-        None => rule_in(groups_of(place), name),
+        None => rule_in(inside_of(place).groups, name),
     }
 }
 
 /// What may stand in a place, beside what may stand anywhere.
-pub(crate) fn groups_of(place: Place) -> &'static [Group] {
+pub(crate) fn inside_of(place: Place) -> &'static Inside {
     match place {
+        Place::Top => &TOP,
+        Place::Label => &LABEL,
         Place::Source => &SOURCE,
         Place::Server => &SERVER,
         Place::Security => &SECURITY,
@@ -72,7 +81,7 @@ pub(crate) fn groups_of(place: Place) -> &'static [Group] {
         Place::Output(OutputKind::Copy) => &COPY,
         Place::Output(OutputKind::Relabel) => &RELABEL,
         Place::Output(OutputKind::Null) => &NULL,
-        Place::Top | Place::Outside | Place::Passed | Place::Label | Place::LeftOut => &[],
+        Place::Outside | Place::Passed | Place::LeftOut => &NOTHING,
     }
 }
 
@@ -91,10 +100,10 @@ pub(crate) fn moved_from(place: Place) -> &'static [Renamed] {
 
 /// The name that a parameter has since got in the same section, if it is an old one.
 pub(crate) fn since_named(place: Place, name: &[u8]) -> Option<&'static str> {
-    match (place, name) {
-        (Place::Buffer, b"retry_limit") => Some("retry_max_times"),
-        _ => new_name(&OLD_NAMES, name),
+    if matches!(place, Place::Buffer) && name == b"retry_limit".as_slice() {
+        return Some("retry_max_times");
     }
+    new_name(&OLD_NAMES, name)
 }
 
 // The new name of a parameter that has one.
@@ -119,5 +128,10 @@ fn rule_in(groups: &'static [Group], name: &[u8]) -> Option<Rule> {
 
 /// Whether the text is one of the words.
 pub(crate) fn is_among(words: &[&'static str], text: &[u8]) -> bool {
-    words.iter().any(|word| word.as_bytes() == text)
+    for word in words {
+        if word.as_bytes() == text {
+            return true;
+        }
+    }
+    false
 }

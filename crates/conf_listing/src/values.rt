@@ -3,22 +3,12 @@
 use crate::amounts::{Unit, amount};
 use crate::decision::Decision;
 use crate::labels::target;
-use crate::notes::Notes;
+use crate::lines::put_setting;
+use crate::notes::{HARMLESS, Notes};
 use crate::paths::FileNames;
 use crate::rules::{Rule, is_among};
 use conf_text::Element;
 use std::alloc::{AllocError, Allocator};
-
-/// The value that stands for another.
-#[derive(Drop)]
-pub(crate) enum Value<A: Allocator> {
-    /// The parameter stands with this value.
-    Is(Vec<u8, A>),
-    /// Another parameter stands in its place, with this value.
-    Of(&'static str, Vec<u8, A>),
-    /// It is left out.
-    Gone,
-}
 
 /// What is known while values are adapted.
 #[derive(Drop)]
@@ -33,31 +23,30 @@ pub(crate) struct Values<'a, A: Allocator> {
 }
 
 impl<A: Allocator + Copy> Values<'_, A> {
-    /// What becomes of a value under a rule; what is said of it goes to the notes.
-    pub fn adapted(
+    /// Adds the line of a parameter with this name and value, by its rule; what is said of it goes
+    /// to the notes.
+    pub fn put(
         &mut self,
+        depth: usize,
         rule: Rule,
+        name: &[u8],
         value: &[u8],
         notes: &mut Notes<A>,
-    ) -> Result<Value<A>, AllocError> {
-        match (rule, value) {
-            (Rule::Kept, _) => self.kept(value),
-            (Rule::Harmless, _) => left_out(notes),
-            (Rule::HarmlessAt(values, decision), _) => {
-                if is_among(values, value) {
-                    return left_out(notes);
-                }
-                self.decided(decision, notes)
-            }
-            (Rule::Decided(decision), _) => self.decided(decision, notes),
-            (Rule::RetryType, b"periodic") => self.periodic(notes),
-            (Rule::Overflow, b"block") => {
+        lines: &mut Vec<u8, A>,
+    ) -> Result<(), AllocError> {
+        match rule {
+            Rule::Harmless => notes.say(&[HARMLESS]),
+            Rule::HarmlessAt(values, _) if is_among(values, value) => notes.say(&[HARMLESS]),
+            Rule::HarmlessAt(_, decision) => notes.leave_out(self.alloc, decision),
+            Rule::Decided(decision) => notes.leave_out(self.alloc, decision),
+            Rule::RetryType if value == b"periodic".as_slice() => put_periodic(depth, notes, lines),
+            Rule::Overflow if value == b"block".as_slice() => {
                 notes.decide(self.alloc, Decision::Block)?;
-                Ok(Value::Is(Vec::from_slice(self.alloc, b"throw_exception")?))
+                put_setting(lines, depth, name, b"throw_exception")
             }
             _ => {
                 let found = self.written(rule, value)?;
-                changed(value, found, notes)
+                put_changed(depth, name, value, &found, notes, lines)
             }
         }
     }
@@ -79,44 +68,31 @@ impl<A: Allocator + Copy> Values<'_, A> {
             _ => Vec::from_slice(alloc, word_for(rule, value)),
         }
     }
-
-    fn kept(&self, value: &[u8]) -> Result<Value<A>, AllocError> {
-        Ok(Value::Is(Vec::from_slice(self.alloc, value)?))
-    }
-
-    // It is left out, if that is accepted.
-    fn decided(&self, decision: Decision, notes: &mut Notes<A>) -> Result<Value<A>, AllocError> {
-        notes.say(&[b"left out"])?;
-        notes.decide(self.alloc, decision)?;
-        Ok(Value::Gone)
-    }
-
-    // Waits that stay the same are those that are multiplied by 1.
-    fn periodic(&self, notes: &mut Notes<A>) -> Result<Value<A>, AllocError> {
-        notes.say(&[b"`periodic` waits stay the same: their base is 1"])?;
-        Ok(Value::Of(
-            "retry_exponential_backoff_base",
-            Vec::from_slice(self.alloc, b"1")?,
-        ))
-    }
 }
 
-// It is left out, and nothing is lost by that.
-fn left_out<A: Allocator + Copy>(notes: &mut Notes<A>) -> Result<Value<A>, AllocError> {
-    notes.say(&[b"left out, it has no bearing on loss"])?;
-    Ok(Value::Gone)
-}
-
-// The value in another form, which is said where it differs.
-fn changed<A: Allocator + Copy>(
-    value: &[u8],
-    found: Vec<u8, A>,
+// Waits that stay the same are those that are multiplied by 1.
+fn put_periodic<A: Allocator + Copy>(
+    depth: usize,
     notes: &mut Notes<A>,
-) -> Result<Value<A>, AllocError> {
-    if found.as_slice() != value {
+    lines: &mut Vec<u8, A>,
+) -> Result<(), AllocError> {
+    notes.say(&[b"`periodic` waits stay the same: their base is 1"])?;
+    put_setting(lines, depth, b"retry_exponential_backoff_base", b"1")
+}
+
+// Adds the line of a parameter whose value has another form, which is said where it differs.
+fn put_changed<A: Allocator + Copy>(
+    depth: usize,
+    name: &[u8],
+    value: &[u8],
+    found: &[u8],
+    notes: &mut Notes<A>,
+    lines: &mut Vec<u8, A>,
+) -> Result<(), AllocError> {
+    if found != value {
         notes.say(&[b"it was `", value, b"`"])?;
     }
-    Ok(Value::Is(found))
+    put_setting(lines, depth, name, found)
 }
 
 // The amount that a text spells, in the profile's form; what spells none stands as it was.

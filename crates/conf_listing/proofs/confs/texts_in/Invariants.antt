@@ -3,5 +3,5 @@ use Rattle.plan_lines.specs.Plans.{texts}
 use Rattle.conf_listing.specs.Networks.{AreTextsOf}
 use Rattle.conf_listing.proofs.confs.texts_in.Given as goal
 
-abbrev pub invariant-loop-at : goal.invariant-loop-at
-invariant-loop-at g l = AreTextsOf (take l.at l.outcomes) (texts l.texts.items)
+abbrev pub invariant-loop-outcome : goal.invariant-loop-outcome
+invariant-loop-outcome g l = AreTextsOf (take l.outcome-index l.outcomes) (texts l.texts.items)
