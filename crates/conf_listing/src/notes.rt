@@ -44,7 +44,7 @@ impl<A: Allocator + Copy> Notes<A> {
 
     /// Says that something changes what the relay does, once.
     pub fn decide(&mut self, alloc: A, decision: Decision) -> Result<(), AllocError> {
-        if self.has_asked(decision.name().as_bytes()) {
+        if is_listed(&self.decisions, decision.name().as_bytes()) {
             return Ok(());
         }
         self.ask(alloc, decision.name().as_bytes())?;
@@ -67,11 +67,6 @@ impl<A: Allocator + Copy> Notes<A> {
     fn ask(&mut self, alloc: A, name: &[u8]) -> Result<(), AllocError> {
         self.decisions.push(Vec::from_slice(alloc, name)?)?;
         Ok(())
-    }
-
-    // Whether it has to be accepted by this name.
-    fn has_asked(&self, name: &[u8]) -> bool {
-        is_listed(&self.decisions, name)
     }
 
     /// The row of which this is said, with these lines behind a comment.

@@ -93,10 +93,23 @@ fn front(name: &[u8]) -> &[u8] {
 // The part of a way that names no folder: what stands behind the last `/` that something stands
 // behind.
 fn last_part(way: &[u8]) -> &[u8] {
-    way.split(|byte| *byte == b'/')
-        .filter(|part| !part.is_empty())
-        .last()
-        .unwrap_or(way)
+    let mut part = way;
+    for at in 0..way.len() {
+        if way[at] != b'/' && (at == 0 || way[at - 1] == b'/') {
+            part = first_part(way.split_at(at).1);
+        }
+    }
+    part
+}
+
+// What stands before the first `/`.
+fn first_part(way: &[u8]) -> &[u8] {
+    for at in 0..way.len() {
+        if way[at] == b'/' {
+            return way.split_at(at).0;
+        }
+    }
+    way
 }
 
 fn is_name_byte(byte: u8) -> bool {

@@ -35,10 +35,11 @@ impl<A: Allocator + Copy> Values<'_, A> {
         lines: &mut Vec<u8, A>,
     ) -> Result<(), AllocError> {
         match rule {
-            Rule::Harmless => notes.say(&[HARMLESS]),
-            Rule::HarmlessAt(values, _) if is_among(values, value) => notes.say(&[HARMLESS]),
-            Rule::HarmlessAt(_, decision) => notes.leave_out(self.alloc, decision),
+            Rule::HarmlessAt(values, decision) if !is_among(values, value) => {
+                notes.leave_out(self.alloc, decision)
+            }
             Rule::Decided(decision) => notes.leave_out(self.alloc, decision),
+            Rule::Harmless | Rule::HarmlessAt(_, _) => notes.say(&[HARMLESS]),
             Rule::RetryType if value == b"periodic".as_slice() => put_periodic(depth, notes, lines),
             Rule::Overflow if value == b"block".as_slice() => {
                 notes.decide(self.alloc, Decision::Block)?;
