@@ -1,5 +1,6 @@
 //! Sizes, times and numbers with fractions or long units.
 
+use crate::rules::is_among;
 use std::alloc::{AllocError, Allocator};
 
 /// What is counted.
@@ -131,33 +132,72 @@ fn number(digits: &[u8], factor: u64) -> Option<u64> {
 
 // What a unit's name multiplies by.
 fn factor_of(name: &[u8], unit: Unit) -> Option<u64> {
+    for factor in factors_of(unit) {
+        if is_among(factor.names, name) {
+            return Some(factor.times);
+        }
+    }
+    None
+}
+
+// The units in which something is spelled.
+fn factors_of(unit: Unit) -> &'static [Factor] {
     match unit {
-        Unit::Bytes => size_factor(name),
-        Unit::Seconds => time_factor(name),
-        Unit::One => match name {
-            b"" => Some(1),
-            _ => None,
-        },
+        Unit::Bytes => &BYTES,
+        Unit::Seconds => &SECONDS,
+        Unit::One => &NUMBERS,
     }
 }
 
-fn size_factor(name: &[u8]) -> Option<u64> {
-    match name {
-        b"" | b"b" | b"B" => Some(1),
-        b"k" | b"K" | b"kb" | b"kB" | b"KB" | b"Kb" | b"KiB" => Some(1 << 10),
-        b"m" | b"M" | b"mb" | b"mB" | b"MB" | b"Mb" | b"MiB" => Some(1 << 20),
-        b"g" | b"G" | b"gb" | b"gB" | b"GB" | b"Gb" | b"GiB" => Some(1 << 30),
-        b"t" | b"T" | b"tb" | b"tB" | b"TB" | b"Tb" | b"TiB" => Some(1 << 40),
-        _ => None,
-    }
+// The names of a unit, and what they multiply by.
+struct Factor {
+    names: &'static [&'static str],
+    times: u64,
 }
 
-fn time_factor(name: &[u8]) -> Option<u64> {
-    match name {
-        b"" | b"s" | b"sec" => Some(1),
-        b"m" | b"min" => Some(60),
-        b"h" => Some(3_600),
-        b"d" => Some(86_400),
-        _ => None,
-    }
-}
+static BYTES: [Factor; 5] = [
+    Factor {
+        names: &["", "b", "B"],
+        times: 1,
+    },
+    Factor {
+        names: &["k", "K", "kb", "kB", "KB", "Kb", "KiB"],
+        times: 1_024,
+    },
+    Factor {
+        names: &["m", "M", "mb", "mB", "MB", "Mb", "MiB"],
+        times: 1_048_576,
+    },
+    Factor {
+        names: &["g", "G", "gb", "gB", "GB", "Gb", "GiB"],
+        times: 1_073_741_824,
+    },
+    Factor {
+        names: &["t", "T", "tb", "tB", "TB", "Tb", "TiB"],
+        times: 1_099_511_627_776,
+    },
+];
+
+static SECONDS: [Factor; 4] = [
+    Factor {
+        names: &["", "s", "sec"],
+        times: 1,
+    },
+    Factor {
+        names: &["m", "min"],
+        times: 60,
+    },
+    Factor {
+        names: &["h"],
+        times: 3_600,
+    },
+    Factor {
+        names: &["d"],
+        times: 86_400,
+    },
+];
+
+static NUMBERS: [Factor; 1] = [Factor {
+    names: &[""],
+    times: 1,
+}];
