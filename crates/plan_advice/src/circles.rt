@@ -30,13 +30,24 @@ fn put_along<A: Allocator + Copy>(
 ) -> Result<(), AllocError> {
     let back = reversed(about.alloc, flow)?;
     let mut open = between_circles(about.alloc, flow, &back)?;
+    put_open(about, flow, &back, &mut open, notes)
+}
+
+// Warns of each circle that some of those with a mark are on, and takes the marks of those on it.
+fn put_open<A: Allocator + Copy>(
+    about: &WarnedPlan<'_, A>,
+    flow: &[Numbers<A>],
+    back: &[Numbers<A>],
+    open: &mut [bool],
+    notes: &mut Notes<A>,
+) -> Result<(), AllocError> {
     let mut ahead = Search::new(about.alloc, flow.len())?;
     let mut behind = Search::new(about.alloc, flow.len())?;
     for start in 0..flow.len() {
-        if is_marked(&open, start) {
+        if is_marked(open, start) {
             ahead.onward(flow, next_of(flow, start))?;
-            behind.onward(&back, &[start])?;
-            put_circle(about, start, &ahead, &behind, &mut open, notes)?;
+            behind.onward(back, &[start])?;
+            put_circle(about, start, &ahead, &behind, open, notes)?;
         }
     }
     Ok(())
@@ -93,7 +104,10 @@ fn line_on<A: Allocator + Copy>(
 
 // The line of the first output of the match that forwards.
 fn forward_in<A: Allocator>(found: Option<&MatchRule<A>>) -> Option<usize> {
-    for output in &found?.outputs {
+    let Some(found) = found else {
+        return None;
+    };
+    for output in &found.outputs {
         if let Output::Forward { .. } = output {
             return Some(line_of(output));
         }

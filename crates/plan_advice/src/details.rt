@@ -2,17 +2,15 @@
 //! that has no reach.
 
 use crate::front::Subject;
-use crate::site::match_at;
-use crate::story::put_note;
-use loss_rules::{Label, Place, RelayLine, Rule, fits_any, line_of};
+use crate::links::MOST_OUTPUTS;
+use crate::site::{match_at, matches_of};
+use crate::story::{put_note, put_numbered};
+use loss_rules::{Label, Place, RelayLine, Rule, buffer_path, fits_any, line_of, sink_path};
 use plan_lines::Plan;
-use relay_conf::{BufferKind, MatchRule, Output, Server};
-use relay_net::{Node, settings};
+use relay_conf::{MatchRule, Output};
+use relay_net::Node;
 use std::alloc::{AllocError, Allocator};
 use tag_pattern::{Plain, apart};
-
-// How many outputs of a relay are looked at.
-const MOST_OUTPUTS: usize = 65_536;
 
 // A relay of the plan, and its line there.
 #[derive(Drop)]
@@ -48,55 +46,70 @@ impl<A: Allocator + Copy> Subject<'_, A> {
     // Adds which relays before this line of the plan have the number or the folder of the relay
     // there.
     fn put_relays(&self, out: &mut Vec<u8, A>, line: usize) -> Result<(), AllocError> {
-        let Some(here) = relay_in(self.plan, line) else {
-            return Ok(());
-        };
         for place in 0..self.plan.relay_lines().len() {
-            if let Some(other) = relay_at(self.plan, place) {
-                self.put_relay(out, &here, &other)?;
+            if let Some(here) = relay_at(self.plan, place)
+                && here.line.line == line
+            {
+                return self.put_relays_before(out, place, &here);
             }
         }
         Ok(())
     }
 
-    // Adds what the other relay has of this one, if it stands before it.
+    // Adds which relays before this one, which is at this place, have its number or its folder.
+    fn put_relays_before(
+        &self,
+        out: &mut Vec<u8, A>,
+        place: usize,
+        here: &Entry<'_, A>,
+    ) -> Result<(), AllocError> {
+        for before in 0..place {
+            if let Some(other) = relay_at(self.plan, before) {
+                self.put_relay(out, here, &other)?;
+            }
+        }
+        Ok(())
+    }
+
+    // Adds what the other relay has of this one.
     fn put_relay(
         &self,
         out: &mut Vec<u8, A>,
         here: &Entry<'_, A>,
         other: &Entry<'_, A>,
     ) -> Result<(), AllocError> {
-        let before = other.line.line;
-        if here.line.line <= before {
+        if other.node.number == here.node.number {
+            self.put_number(out, other.line.line, here.node.number)?;
+        }
+        let folder = here.line.folder.as_bytes();
+        if other.line.folder.as_bytes() != folder {
             return Ok(());
         }
-        if other.node.number == here.node.number {
-            self.put_number(out, before, here.node.number)?;
-        }
-        let folder = here.line.folder.as_str();
-        if other.line.folder.as_str() == folder {
-            self.put_too(out, "relay", before, "folder", folder)?;
-        }
-        Ok(())
+        self.put_too(out, b"relay", other.line.line, b"folder", folder)
     }
 
     // Adds that the relay in this line has this number too.
     fn put_number(&self, out: &mut Vec<u8, A>, line: usize, number: u32) -> Result<(), AllocError> {
         let text = format!(in self.alloc; "{number}")?;
-        self.put_too(out, "relay", line, "number", text.as_str())
+        self.put_too(out, b"relay", line, b"number", text.as_bytes())
     }
 
     // Adds what the one in this line has too.
     fn put_too(
         &self,
         out: &mut Vec<u8, A>,
-        one: &str,
+        one: &[u8],
         line: usize,
-        kind: &str,
-        text: &str,
+        kind: &[u8],
+        text: &[u8],
     ) -> Result<(), AllocError> {
-        let note = format!(in self.alloc; "  The {one} in line {line} has the {kind} {text} too.")?;
-        put_note(out, note.as_bytes())
+        put_numbered(
+            self.alloc,
+            out,
+            &[b"  The ", one, b" in line "],
+            line,
+            &[b" has the ", kind, b" ", text, b" too."],
+        )
     }
 
     // Adds the address of the source in this line of the configuration of the relay with this
@@ -111,8 +124,8 @@ impl<A: Allocator + Copy> Subject<'_, A> {
         };
         for source in &node.relay.sources {
             if source.line == line {
-                let front = "Another source has the address";
-                self.put_host(out, front, node.host.as_str(), source.port, " too")?;
+                let front = b"Another source has the address";
+                self.put_host(out, front, node.host.as_bytes(), source.port, b" too")?;
             }
         }
         Ok(())
@@ -124,9 +137,25 @@ impl<A: Allocator + Copy> Subject<'_, A> {
             return Ok(());
         };
         for output in &found.rule.outputs {
-            if let Some(server) = server_in(output, line) {
-                let front = "No source of the plan has the address";
-                self.put_host(out, front, server.host.as_str(), server.port, "")?;
+            self.put_server_of(out, output, line)?;
+        }
+        Ok(())
+    }
+
+    // Adds its address, if it is one of this output.
+    fn put_server_of(
+        &self,
+        out: &mut Vec<u8, A>,
+        output: &Output<A>,
+        line: usize,
+    ) -> Result<(), AllocError> {
+        let Output::Forward { settings, .. } = output else {
+            return Ok(());
+        };
+        for server in &settings.servers {
+            if server.line == line {
+                let front = b"No source of the plan has the address";
+                return self.put_host(out, front, server.host.as_bytes(), server.port, b"");
             }
         }
         Ok(())
@@ -136,13 +165,18 @@ impl<A: Allocator + Copy> Subject<'_, A> {
     fn put_host(
         &self,
         out: &mut Vec<u8, A>,
-        front: &str,
-        host: &str,
+        front: &[u8],
+        host: &[u8],
         port: u16,
-        end: &str,
+        end: &[u8],
     ) -> Result<(), AllocError> {
-        let note = format!(in self.alloc; "  {front} {host}:{port}{end}.")?;
-        put_note(out, note.as_bytes())
+        put_numbered(
+            self.alloc,
+            out,
+            &[b"  ", front, b" ", host, b":"],
+            port as usize,
+            &[end, b"."],
+        )
     }
 
     // Adds which outputs before this line of the configuration have a path of the output there.
@@ -172,37 +206,22 @@ impl<A: Allocator + Copy> Subject<'_, A> {
         &self,
         out: &mut Vec<u8, A>,
         line: usize,
-        path: Option<&str>,
-        its: Option<&str>,
+        path: Option<&[u8]>,
+        its: Option<&[u8]>,
     ) -> Result<(), AllocError> {
-        let Some(path) = path else {
-            return Ok(());
-        };
-        match its {
-            Some(its) => self.put_same(out, line, path, its),
-            None => Ok(()),
+        match (path, its) {
+            (Some(path), Some(its)) if path == its => {
+                self.put_too(out, b"output", line, b"path", path)
+            }
+            _ => Ok(()),
         }
-    }
-
-    // Adds that the output in this line has this path too, if that is its path.
-    fn put_same(
-        &self,
-        out: &mut Vec<u8, A>,
-        line: usize,
-        path: &str,
-        its: &str,
-    ) -> Result<(), AllocError> {
-        if path == its {
-            self.put_too(out, "output", line, "path", path)?;
-        }
-        Ok(())
     }
 
     // Adds which match asks for a reach, of the label in this line of the plan.
     fn put_match(&self, out: &mut Vec<u8, A>, line: usize) -> Result<(), AllocError> {
         for label in self.plan.labels() {
             if label.line == line
-                && let Some(found) = self.uncovered(label)
+                && let Some(found) = uncovered(self.plan, label)
             {
                 return self.put_found(out, found, self.texts.conf_name(label.place));
             }
@@ -219,127 +238,97 @@ impl<A: Allocator + Copy> Subject<'_, A> {
         )?;
         put_note(out, note.as_bytes())
     }
+}
 
-    // The first match that may take tags of the label and has no reach that covers them.
-    fn uncovered(&self, label: &Label<A>) -> Option<Found> {
-        for pattern in &label.patterns {
-            if let Some(found) = self.uncovered_of(label, pattern) {
-                return Some(found);
-            }
+// The first match that may take tags of the label and has no reach that covers them.
+fn uncovered<A: Allocator + Copy>(plan: &Plan<A>, label: &Label<A>) -> Option<Found> {
+    let matches = matches_of(plan, label.place, label.scope);
+    for pattern in &label.patterns {
+        if let Some(found) = uncovered_of(plan, label, pattern, matches) {
+            return Some(found);
         }
-        None
     }
+    None
+}
 
-    // The same of one pattern of the label.
-    fn uncovered_of(&self, label: &Label<A>, pattern: &Plain<A>) -> Option<Found> {
-        let node = self.plan.net().relays().get(label.place)?;
-        let scope = node.relay.scopes.get(label.scope)?;
-        for (index, rule) in scope.matches.iter().enumerate() {
-            if !self.is_covered(label, pattern, index, rule) {
-                return Some(Found {
-                    index,
-                    line: rule.line,
-                });
-            }
-            if fits_any(pattern, &rule.patterns) {
-                return None;
-            }
+// The same of one pattern of the label, among the matches of its scope.
+fn uncovered_of<A: Allocator + Copy>(
+    plan: &Plan<A>,
+    label: &Label<A>,
+    pattern: &Plain<A>,
+    matches: &[MatchRule<A>],
+) -> Option<Found> {
+    for (index, rule) in matches.iter().enumerate() {
+        if !is_covered(plan, label, pattern, index, &rule.patterns) {
+            return Some(Found {
+                index,
+                line: rule.line,
+            });
         }
-        None
+        if fits_any(pattern, &rule.patterns) {
+            return None;
+        }
     }
+    None
+}
 
-    // Whether each pattern of the match with this index has nothing in common with the label's, or
-    // a reach covers it.
-    fn is_covered(
-        &self,
-        label: &Label<A>,
-        pattern: &Plain<A>,
-        index: usize,
-        rule: &MatchRule<A>,
-    ) -> bool {
-        for taken in &rule.patterns {
-            if !apart(taken, pattern) && !self.is_reached(label, pattern, index, taken) {
-                return false;
-            }
+// Whether each of these patterns, those of the match with this index, has nothing in common with
+// the label's, or a reach covers it.
+fn is_covered<A: Allocator + Copy>(
+    plan: &Plan<A>,
+    label: &Label<A>,
+    pattern: &Plain<A>,
+    index: usize,
+    patterns: &[Plain<A>],
+) -> bool {
+    for taken in patterns {
+        if !apart(taken, pattern) && !is_reached(plan, label, pattern, index, taken) {
+            return false;
         }
-        true
     }
+    true
+}
 
-    // Whether the label's pattern or that of the match with this index fits a reach of the match.
-    fn is_reached(
-        &self,
-        label: &Label<A>,
-        pattern: &Plain<A>,
-        index: usize,
-        taken: &Plain<A>,
-    ) -> bool {
-        for reach in self.plan.reaches() {
-            if reach.place == label.place
-                && reach.scope == label.scope
-                && reach.rule == index
-                && (fits_any(pattern, &reach.patterns) || fits_any(taken, &reach.patterns))
-            {
-                return true;
-            }
+// Whether the label's pattern or that of the match with this index fits a reach of the match.
+fn is_reached<A: Allocator + Copy>(
+    plan: &Plan<A>,
+    label: &Label<A>,
+    pattern: &Plain<A>,
+    index: usize,
+    taken: &Plain<A>,
+) -> bool {
+    for reach in plan.reaches() {
+        if reach.place == label.place
+            && reach.scope == label.scope
+            && reach.rule == index
+            && (fits_any(pattern, &reach.patterns) || fits_any(taken, &reach.patterns))
+        {
+            return true;
         }
-        false
     }
+    false
 }
 
 // The relay at this place of the plan.
 fn relay_at<A: Allocator + Copy>(plan: &Plan<A>, place: usize) -> Option<Entry<'_, A>> {
-    Some(Entry {
-        node: plan.net().relays().get(place)?,
-        line: plan.relay_lines().get(place)?,
-    })
-}
-
-// The relay in this line of the plan.
-fn relay_in<A: Allocator + Copy>(plan: &Plan<A>, line: usize) -> Option<Entry<'_, A>> {
-    for (place, other) in plan.relay_lines().iter().enumerate() {
-        if other.line == line {
-            return relay_at(plan, place);
-        }
-    }
-    None
-}
-
-// The server of the output that this line opens.
-fn server_in<A: Allocator>(output: &Output<A>, line: usize) -> Option<&Server<A>> {
-    let Output::Forward { settings, .. } = output else {
+    let Some(node) = plan.net().relays().get(place) else {
         return None;
     };
-    for server in &settings.servers {
-        if server.line == line {
-            return Some(server);
-        }
+    match plan.relay_lines().get(place) {
+        Some(line) => Some(Entry { node, line }),
+        None => None,
     }
-    None
 }
 
 // The output with a buffer that this line of the relay at this place opens.
 fn output_in<A: Allocator + Copy>(plan: &Plan<A>, place: usize, line: usize) -> Option<&Output<A>> {
     for number in 0..MOST_OUTPUTS {
-        let output = plan.net().output(place, number)?;
+        let Some(output) = plan.net().output(place, number) else {
+            return None;
+        };
         if line_of(output) == line {
             return Some(output);
         }
     }
     None
-}
-
-// The path of the output's buffer, if that is in a file.
-fn buffer_path<A: Allocator>(output: &Output<A>) -> Option<&str> {
-    match &settings(output)?.kind {
-        BufferKind::File { path } => Some(path.as_str()),
-        BufferKind::Memory => None,
-    }
-}
-
-// The path of the sink that the output stores in.
-fn sink_path<A: Allocator>(output: &Output<A>) -> Option<&str> {
-    match output {
-        Output::File { settings, .. } => Some(settings.path.as_str()),
-        _ => None,
-    }
 }

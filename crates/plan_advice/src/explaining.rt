@@ -1,6 +1,6 @@
 //! What is said of a plan for which the checker answers no.
 
-ghost use Rattle.std.specs.Prelude.{◌≡◌, false, IfOk, IsTrue};
+ghost use Rattle.std.specs.Prelude.{◌≡◌, false, IfOk, IfSome, IsTrue};
 ghost use Rattle.loss_search.specs.Losses.{IsLosingText};
 
 use crate::front::Subject;
@@ -47,35 +47,54 @@ pub fn explain<A: Allocator + Copy>(
         texts,
         rule,
         place,
-        others,
     };
-    let front = subject.front()?;
+    let front = subject.front(others)?;
     if !loses_events(rule) {
         return Ok(Explained {
             lines: front,
             has_loss: false,
         });
     }
-    let near = near_patterns(alloc, plan, place)?;
-    match find(alloc, plan.net(), plan.duty(), &near)? {
-        Some(steps) => with_steps(alloc, plan, texts, front, &steps),
+    match losing_lines(alloc, plan, texts, place, &front)? {
+        Some(lines) => Ok(Explained {
+            lines,
+            has_loss: true,
+        }),
         None => without_steps(front),
     }
 }
 
-// What is said with these steps behind it, where the network takes all of that as steps that lose
-// an event.
+// What is said with steps behind it, if some are found that lose an event.
+fn losing_lines<A: Allocator + Copy>(
+    alloc: A,
+    plan: &Plan<A>,
+    texts: &Texts<'_, A>,
+    place: Place,
+    front: &[u8],
+) -> Result<Option<Vec<u8, A>>, AllocError>
+    ensures { IfOk result
+        (λ found. IfSome found (λ lines. IsLosingText plan.now.duty plan.now.net lines.items)) }
+{
+    let near = near_patterns(alloc, plan, place)?;
+    match find(alloc, plan.net(), plan.duty(), &near)? {
+        Some(steps) => with_steps(alloc, plan, texts, front, &steps),
+        None => Ok(None),
+    }
+}
+
+// What is said with these steps behind it, if the network takes all of that as steps that lose an
+// event.
 fn with_steps<A: Allocator + Copy>(
     alloc: A,
     plan: &Plan<A>,
     texts: &Texts<'_, A>,
-    front: Vec<u8, A>,
+    front: &[u8],
     steps: &[Step<A>],
-) -> Result<Explained<A>, AllocError>
+) -> Result<Option<Vec<u8, A>>, AllocError>
     ensures { IfOk result
-        (λ said. IsTrue said.has_loss → IsLosingText plan.now.duty plan.now.net said.lines.items) }
+        (λ found. IfSome found (λ lines. IsLosingText plan.now.duty plan.now.net lines.items)) }
 {
-    let mut lines = Vec::from_slice(alloc, &front)?;
+    let mut lines = Vec::from_slice(alloc, front)?;
     put_note(
         &mut lines,
         b"So an acknowledged event is lost in this network:",
@@ -88,11 +107,8 @@ fn with_steps<A: Allocator + Copy>(
     };
     story.put(&mut lines)?;
     match if_losing_text(alloc, plan.net(), plan.duty(), lines)? {
-        Some(lines) => Ok(Explained {
-            lines,
-            has_loss: true,
-        }),
-        None => without_steps(front),
+        Some(lines) => Ok(Some(lines)),
+        None => Ok(None),
     }
 }
 

@@ -42,9 +42,9 @@ fn put_fault<A: Allocator + Copy>(
     words: Words,
     site: &Site<'_>,
 ) -> Result<(), AllocError> {
-    put_headed(alloc, out, "The fault", words.meaning)?;
+    put_headed(out, b"The fault", words.meaning)?;
     site.put(alloc, out, "It stands in")?;
-    put_headed(alloc, out, "To mend it", words.advice)
+    put_headed(out, b"To mend it", words.advice)
 }
 
 // How many relays the plan has in front of this line: the place of the relay in this line.
@@ -54,12 +54,13 @@ fn relays_before<A: Allocator + Copy>(
     line: usize,
 ) -> Result<usize, AllocError> {
     let all = lines(alloc, texts.plan)?;
-    let before = all.iter().take(line.saturating_sub(1));
-    Ok(
-        before
-            .filter(|text| text.trim_ascii_start().starts_with(b"relay"))
-            .count(),
-    )
+    let mut count = 0usize;
+    for text in all.iter().take(line.saturating_sub(1)) {
+        if text.trim_ascii_start().starts_with(b"relay") {
+            count = count.saturating_add(1);
+        }
+    }
+    Ok(count)
 }
 
 // The line of the plan's fault, and the words on it; none of want of memory.

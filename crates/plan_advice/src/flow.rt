@@ -1,6 +1,7 @@
 //! Where the events of a plan's reaches go on.
 
 use crate::search::is_marked;
+use crate::site::matches_of;
 use crate::warned_plan::WarnedPlan;
 use loss_rules::Reach;
 use plan_lines::Plan;
@@ -47,8 +48,7 @@ pub(crate) fn match_of<'a, A: Allocator + Copy>(
     plan: &'a Plan<A>,
     reach: &Reach<A>,
 ) -> Option<&'a MatchRule<A>> {
-    let node = plan.net().relays().get(reach.place)?;
-    node.relay.scopes.get(reach.scope)?.matches.get(reach.rule)
+    matches_of(plan, reach.place, reach.scope).get(reach.rule)
 }
 
 // Those that the events of this reach may come to.

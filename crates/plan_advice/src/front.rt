@@ -1,17 +1,17 @@
 //! What is said of a broken rule in front of the steps.
 
-use crate::keeping::{lacks, words_of};
+use crate::keeping::put_lacks_of;
 use crate::site::{MatchSite, Texts, match_at};
-use crate::story::{put_headed, put_note};
+use crate::story::{put_headed, put_joined, put_note, put_numbered};
 use crate::ways::Ways;
 use crate::words::{advice, asks_for_lines, meaning};
-use loss_rules::{Place, Rule, line_of};
+use loss_rules::{Place, Rule};
 use plan_lines::Plan;
 use relay_conf::Output;
 use relay_net::Entrance;
 use std::alloc::{AllocError, Allocator};
 
-/// What is explained: a rule that is broken at this place of a plan, and at these others.
+/// What is explained: a rule that is broken at this place of a plan.
 #[derive(Drop)]
 pub(crate) struct Subject<'a, A: Allocator> {
     pub alloc: A,
@@ -19,28 +19,30 @@ pub(crate) struct Subject<'a, A: Allocator> {
     pub texts: &'a Texts<'a, A>,
     pub rule: Rule,
     pub place: Place,
-    pub others: &'a [Place],
 }
 
 impl<A: Allocator + Copy> Subject<'_, A> {
     /// What is said in front of the steps: the rule, the line where it is broken, what to change,
-    /// by which lines of the plan tags come there, and the other lines where it is broken; each
-    /// line begins with `#`.
-    pub fn front(&self) -> Result<Vec<u8, A>, AllocError> {
+    /// by which lines of the plan tags come there, and the other lines where it is broken, which
+    /// are these; each line begins with `#`.
+    pub fn front(&self, others: &[Place]) -> Result<Vec<u8, A>, AllocError> {
         let mut lines = Vec::new(self.alloc);
-        self.put_rule(&mut lines)?;
-        let site = self.texts.site(self.plan, self.place);
-        site.put(self.alloc, &mut lines, "It is broken in")?;
-        self.put_relay_of_conf(&mut lines)?;
-        put_headed(self.alloc, &mut lines, "To mend it", advice(self.rule))?;
-        self.put_details(&mut lines)?;
-        self.put_labelling(&mut lines)?;
-        self.put_lacks(&mut lines)?;
-        self.put_ways(&mut lines)?;
-        for place in self.others {
+        self.put(&mut lines)?;
+        for place in others {
             self.of_other(*place).put_as_other(&mut lines)?;
         }
         Ok(lines)
+    }
+
+    // Adds all of that but the other lines.
+    fn put(&self, out: &mut Vec<u8, A>) -> Result<(), AllocError> {
+        self.put_rule(out)?;
+        self.put_place(out, "It is broken in")?;
+        put_headed(out, b"To mend it", advice(self.rule))?;
+        self.put_details(out)?;
+        self.put_labelling(out)?;
+        self.put_lacks(out)?;
+        self.put_ways(out)
     }
 
     // The same rule at another place, alone.
@@ -51,25 +53,28 @@ impl<A: Allocator + Copy> Subject<'_, A> {
             texts: self.texts,
             rule: self.rule,
             place,
-            others: &[],
         }
     }
 
     // Adds that the rule is broken here too, and what stands here.
     fn put_as_other(&self, out: &mut Vec<u8, A>) -> Result<(), AllocError> {
-        let site = self.texts.site(self.plan, self.place);
-        site.put(self.alloc, out, "It is broken too in")?;
-        self.put_relay_of_conf(out)?;
+        self.put_place(out, "It is broken too in")?;
         self.put_details(out)?;
         self.put_lacks(out)
+    }
+
+    // Adds these words, the place, and what stands there.
+    fn put_place(&self, out: &mut Vec<u8, A>, words: &str) -> Result<(), AllocError> {
+        let site = self.texts.site(self.plan, self.place);
+        site.put(self.alloc, out, words)?;
+        self.put_relay_of_conf(out)
     }
 
     // Adds what the rule asks for.
     fn put_rule(&self, out: &mut Vec<u8, A>) -> Result<(), AllocError> {
         let rule = self.rule;
-        let asked = meaning(rule);
-        let note = format!(in self.alloc; "{rule}: {asked}.")?;
-        put_note(out, note.as_bytes())
+        let code = format!(in self.alloc; "{rule}")?;
+        put_headed(out, code.as_bytes(), meaning(rule))
     }
 
     // Adds whose configuration it is that breaks the rule, if it is one.
@@ -81,17 +86,15 @@ impl<A: Allocator + Copy> Subject<'_, A> {
             return Ok(());
         };
         match self.plan.relay_lines().get(at) {
-            Some(entry) => self.put_folder(out, relay, entry.folder.as_str()),
+            Some(entry) => put_numbered(
+                self.alloc,
+                out,
+                &[b"  That is the configuration of relay "],
+                relay as usize,
+                &[b", whose folder is ", entry.folder.as_bytes(), b"."],
+            ),
             None => Ok(()),
         }
-    }
-
-    // Adds the relay's number and its folder.
-    fn put_folder(&self, out: &mut Vec<u8, A>, relay: u32, folder: &str) -> Result<(), AllocError> {
-        let note = format!(in self.alloc;
-            "  That is the configuration of relay {relay}, whose folder is {folder}."
-        )?;
-        put_note(out, note.as_bytes())
     }
 
     // Adds by which command lines are added that are missing.
@@ -99,11 +102,15 @@ impl<A: Allocator + Copy> Subject<'_, A> {
         if !asks_for_lines(self.rule) {
             return Ok(());
         }
-        let name = self.texts.plan_name;
-        let note = format!(in self.alloc;
-            "  `relayctl label {name}` looks for lines that mend it, and prints the plan with them."
-        )?;
-        put_note(out, note.as_bytes())
+        let name = self.texts.plan_name.as_bytes();
+        put_joined(
+            out,
+            &[
+                b"  `relayctl label ",
+                name,
+                b"` looks for lines that mend it, and prints the plan with them.",
+            ],
+        )
     }
 
     // Adds what each output of a match lacks that doesn't keep.
@@ -115,7 +122,7 @@ impl<A: Allocator + Copy> Subject<'_, A> {
             return Ok(());
         };
         for output in &found.rule.outputs {
-            self.put_lacks_of(out, output)?;
+            put_lacks_of(self.alloc, out, output)?;
         }
         self.put_dropping(out, &found)
     }
@@ -144,21 +151,6 @@ impl<A: Allocator + Copy> Subject<'_, A> {
         put_note(out, note.as_bytes())
     }
 
-    // Adds what the output lacks.
-    fn put_lacks_of(&self, out: &mut Vec<u8, A>, output: &Output<A>) -> Result<(), AllocError> {
-        let line = line_of(output);
-        for found in &lacks(self.alloc, output)? {
-            self.put_lack(out, line, words_of(*found))?;
-        }
-        Ok(())
-    }
-
-    // Adds that the output in this line lacks this.
-    fn put_lack(&self, out: &mut Vec<u8, A>, line: usize, lack: &str) -> Result<(), AllocError> {
-        let note = format!(in self.alloc; "  The output in line {line} lacks {lack}.")?;
-        put_note(out, note.as_bytes())
-    }
-
     // Adds the lines of the plan by which tags come to the place.
     fn put_ways(&self, out: &mut Vec<u8, A>) -> Result<(), AllocError> {
         let lines = self.ways()?;
@@ -170,8 +162,7 @@ impl<A: Allocator + Copy> Subject<'_, A> {
             b"Tags come there by these lines, back to those of clients:",
         )?;
         for line in &lines {
-            let site = self.texts.site(self.plan, Place::Plan { line: *line });
-            site.put(self.alloc, out, " ")?;
+            self.texts.plan_site(*line).put(self.alloc, out, " ")?;
         }
         Ok(())
     }

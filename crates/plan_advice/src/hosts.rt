@@ -33,9 +33,8 @@ fn put_host<A: Allocator + Copy>(
     let words = format!(in about.alloc;
         "a server is to be reached as {host}, and its source listens on {bind} alone, which only its own machine reaches: what is sent to {host} doesn't arrive."
     )?;
-    notes.put_warning(about, words.as_str())?;
-    notes.put_place(about, link.from.place, link.server.line)?;
-    notes.put_place(about, link.to, link.source.line)
+    let sites = [(link.place, link.server.line), (link.to, link.source.line)];
+    notes.put_at(about, words.as_str(), &sites)
 }
 
 // Whether a host is the machine itself, by its text.

@@ -1,77 +1,79 @@
 //! What an output lacks that lets go of events.
 
+use crate::story::put_numbered;
 use relay_conf::{BufferKind, BufferSettings, Output, OverflowAction};
-use relay_net::settings;
 use std::alloc::{AllocError, Allocator};
 
-/// One thing that an output lacks to keep what it takes.
-#[derive(Clone, Copy, PartialEq, Eq)]
-pub(crate) enum Lack {
-    /// A buffer: it goes to nowhere.
-    Buffer,
-    /// A buffer in a file.
-    File,
-    /// Retries without an end.
-    Retries,
-    /// The refusal of what doesn't fit.
-    Refusal,
-    /// Acknowledgements.
-    Acknowledgements,
-}
+// What an output may lack to keep what it takes, and what becomes of events without it, as
+// docs/CONFIGURATION.md says, "Losing nothing".
 
-/// What it is and what becomes of events without it, as docs/CONFIGURATION.md says, "Losing
-/// nothing".
-pub(crate) fn words_of(lack: Lack) -> &'static str {
-    match lack {
-        Lack::Buffer => "a buffer: `@type null` lets go of each event",
-        Lack::File => {
-            "a `<buffer>` with `@type file` and a `path`: a restart of the relay loses what is in the buffer"
-        }
-        Lack::Retries => {
-            "`retry_forever true` in its buffer: a chunk that can't be delivered is let go after `retry_timeout` or `retry_max_times`"
-        }
-        Lack::Refusal => {
-            "`overflow_action throw_exception` in its buffer: `drop_oldest_chunk` lets go the oldest queued chunk of a full buffer"
-        }
-        Lack::Acknowledgements => {
-            "`require_ack_response true`: a chunk goes once it was sent, whether or not it arrived"
-        }
-    }
-}
+const BUFFER: &str = "a buffer: `@type null` lets go of each event";
 
-/// What the output lacks to keep what it takes.
-pub(crate) fn lacks<A: Allocator + Copy>(
+const FILE: &str =
+    "a `<buffer>` with `@type file` and a `path`: a restart of the relay loses what is in the buffer";
+
+const RETRIES: &str =
+    "`retry_forever true` in its buffer: a chunk that can't be delivered is let go after `retry_timeout` or `retry_max_times`";
+
+const REFUSAL: &str =
+    "`overflow_action throw_exception` in its buffer: `drop_oldest_chunk` lets go the oldest queued chunk of a full buffer";
+
+const ACKNOWLEDGEMENTS: &str =
+    "`require_ack_response true`: a chunk goes once it was sent, whether or not it arrived";
+
+/// Adds what the output lacks to keep what it takes. The only error is want of memory.
+pub(crate) fn put_lacks_of<A: Allocator + Copy>(
     alloc: A,
+    out: &mut Vec<u8, A>,
     output: &Output<A>,
-) -> Result<Vec<Lack, A>, AllocError> {
-    let mut found = Vec::new(alloc);
-    if let Output::Null { line: _ } = output {
-        found.push(Lack::Buffer)?;
-    }
-    if let Some(buffer) = settings(output) {
-        add_of_buffer(&mut found, buffer)?;
-    }
-    if let Output::Forward { settings, .. } = output {
-        if !settings.require_ack_response {
-            found.push(Lack::Acknowledgements)?;
+) -> Result<(), AllocError> {
+    match output {
+        Output::Null { line } => put_lack(alloc, out, *line, BUFFER),
+        Output::Relabel { .. } => Ok(()),
+        Output::Forward { settings, line } => {
+            put_lacks_of_buffer(alloc, out, *line, &settings.buffer)?;
+            if settings.require_ack_response {
+                return Ok(());
+            }
+            put_lack(alloc, out, *line, ACKNOWLEDGEMENTS)
+        }
+        Output::File { settings, line } => {
+            put_lacks_of_buffer(alloc, out, *line, &settings.buffer)
         }
     }
-    Ok(found)
 }
 
-// Adds what the buffer lacks.
-fn add_of_buffer<A: Allocator>(
-    found: &mut Vec<Lack, A>,
+// Adds what this buffer of the output in this line lacks.
+fn put_lacks_of_buffer<A: Allocator + Copy>(
+    alloc: A,
+    out: &mut Vec<u8, A>,
+    line: usize,
     buffer: &BufferSettings<A>,
 ) -> Result<(), AllocError> {
     if let BufferKind::Memory = &buffer.kind {
-        found.push(Lack::File)?;
+        put_lack(alloc, out, line, FILE)?;
     }
     if !buffer.retry.forever {
-        found.push(Lack::Retries)?;
+        put_lack(alloc, out, line, RETRIES)?;
     }
     if buffer.overflow_action == OverflowAction::DropOldestChunk {
-        found.push(Lack::Refusal)?;
+        put_lack(alloc, out, line, REFUSAL)?;
     }
     Ok(())
+}
+
+// Adds that the output in this line lacks this.
+fn put_lack<A: Allocator + Copy>(
+    alloc: A,
+    out: &mut Vec<u8, A>,
+    line: usize,
+    lack: &str,
+) -> Result<(), AllocError> {
+    put_numbered(
+        alloc,
+        out,
+        &[b"  The output in line "],
+        line,
+        &[b" lacks ", lack.as_bytes(), b"."],
+    )
 }

@@ -14,23 +14,12 @@ pub(crate) fn put_keys<A: Allocator + Copy>(
     notes: &mut Notes<A>,
 ) -> Result<(), AllocError> {
     for link in links {
-        if let Some(words) = fault(&link.from.settings.security, &link.source.security) {
-            put_key(about, link, words, notes)?;
+        if let Some(words) = fault(&link.settings.security, &link.source.security) {
+            let sites = [(link.place, link.line), (link.to, link.source.line)];
+            notes.put_at(about, words, &sites)?;
         }
     }
     Ok(())
-}
-
-// Adds the warning of this server.
-fn put_key<A: Allocator + Copy>(
-    about: &WarnedPlan<'_, A>,
-    link: &Link<'_, A>,
-    words: &str,
-    notes: &mut Notes<A>,
-) -> Result<(), AllocError> {
-    notes.put_warning(about, words)?;
-    notes.put_place(about, link.from.place, link.from.line)?;
-    notes.put_place(about, link.to, link.source.line)
 }
 
 // What is wrong with the keys of an output and of the source that it forwards to, if anything is.

@@ -6,7 +6,7 @@ use crate::notes::Notes;
 use crate::search::Search;
 use crate::warned_plan::WarnedPlan;
 use buffer_state::GREATEST_SIZE;
-use loss_rules::{Reach, line_of};
+use loss_rules::line_of;
 use plan_lines::Plan;
 use relay_conf::{BufferSettings, MatchRule, Output};
 use relay_net::settings as buffer_of;
@@ -19,18 +19,23 @@ pub(crate) fn put_limits<A: Allocator + Copy>(
     forwards: &[Forward<'_, A>],
     notes: &mut Notes<A>,
 ) -> Result<(), AllocError> {
-    let every = vec![in about.alloc; true; about.plan.net().relays().len()]?;
-    let relabels = flow(about, Steps::Relabels, &every)?;
+    let relabels = relabels(about)?;
     let mut search = Search::new(about.alloc, relabels.len())?;
     let least = least_bytes(about);
     for forward in forwards {
         if most_bytes(&forward.settings.buffer) > least {
-            let first = first_behind(about, forward)?;
-            let behind = search.onward(&relabels, &first)?;
-            put_of_forward(about, forward, behind, notes)?;
+            put_of_forward(about, forward, &relabels, &mut search, notes)?;
         }
     }
     Ok(())
+}
+
+// For each reach of the plan those that its events may come to by one relabel.
+fn relabels<A: Allocator + Copy>(
+    about: &WarnedPlan<'_, A>,
+) -> Result<Vec<Numbers<A>, A>, AllocError> {
+    let every = vec![in about.alloc; true; about.plan.net().relays().len()]?;
+    flow(about, Steps::Relabels, &every)
 }
 
 // What the buffer of the plan takes that takes least: who sends no more is passed over at once.
@@ -72,96 +77,102 @@ fn first_behind<A: Allocator + Copy>(
     Ok(first)
 }
 
-// An output of the relay at this place.
-#[derive(Clone, Copy)]
-struct OutputAt<'a, A: Allocator> {
-    place: usize,
-    output: &'a Output<A>,
-}
+// A buffer: the place of its relay, the line of its output, and the most bytes that it takes as one
+// message.
+type Taking = (usize, usize, u64);
 
-// Warns of each buffer of these reaches that is too small for what this output sends, of each once.
+// Warns of each buffer that is too small for what this output sends, of each once. These are the
+// relabels.
 fn put_of_forward<A: Allocator + Copy>(
     about: &WarnedPlan<'_, A>,
     forward: &Forward<'_, A>,
-    behind: &[usize],
+    relabels: &[Numbers<A>],
+    search: &mut Search<A>,
     notes: &mut Notes<A>,
 ) -> Result<(), AllocError> {
-    let mut last = None;
-    for at in &outputs_of(about, behind)? {
-        let here = Some((at.place, line_of(at.output)));
-        if here != last {
-            put_of_output(about, forward, at.place, at.output, notes)?;
-        }
-        last = here;
-    }
-    Ok(())
+    let sent = most_bytes(&forward.settings.buffer);
+    let first = first_behind(about, forward)?;
+    let behind = search.onward(relabels, &first)?;
+    put_all(about, forward, &small_buffers(about, behind, sent)?, notes)
 }
 
-// The outputs of the matches of these reaches, by relays in the order of the plan and then by
-// lines.
-fn outputs_of<'a, A: Allocator + Copy>(
-    about: &WarnedPlan<'a, A>,
+// The buffers of these reaches' matches that take less than so many bytes as one message, each
+// once, by relays in the order of the plan and then by lines.
+fn small_buffers<A: Allocator + Copy>(
+    about: &WarnedPlan<'_, A>,
     reaches: &[usize],
-) -> Result<Vec<OutputAt<'a, A>, A>, AllocError> {
+    sent: u64,
+) -> Result<Vec<Taking, A>, AllocError> {
     let mut found = Vec::new(about.alloc);
     for number in reaches {
-        if let Some(reach) = about.plan.reaches().get(*number) {
-            add_outputs(about.plan, reach, &mut found)?;
+        if let Some(reach) = about.plan.reaches().get(*number)
+            && let Some(rule) = match_of(about.plan, reach)
+        {
+            add_small(&mut found, reach.place, &rule.outputs, sent)?;
         }
     }
-    found.sort_by_key(|at| line_of(at.output))?;
-    found.sort_by_key(|at| at.place)?;
+    found.sort()?;
+    found.dedup();
     Ok(found)
 }
 
-// Adds those of the match of this reach.
-fn add_outputs<'a, A: Allocator + Copy>(
-    plan: &'a Plan<A>,
-    reach: &Reach<A>,
-    found: &mut Vec<OutputAt<'a, A>, A>,
+// Adds those of these outputs of the relay at this place.
+fn add_small<A: Allocator>(
+    found: &mut Vec<Taking, A>,
+    place: usize,
+    outputs: &[Output<A>],
+    sent: u64,
 ) -> Result<(), AllocError> {
-    let Some(rule) = match_of(plan, reach) else {
-        return Ok(());
-    };
-    for output in &rule.outputs {
-        found.push(OutputAt {
-            place: reach.place,
-            output,
-        })?;
+    for output in outputs {
+        if let Some(buffer) = buffer_of(output)
+            && most_bytes(buffer) < sent
+        {
+            found.push((place, line_of(output), most_bytes(buffer)))?;
+        }
     }
     Ok(())
 }
 
 // Whether the match has an output in this line.
 fn has_output<A: Allocator>(found: Option<&MatchRule<A>>, line: usize) -> bool {
-    match found {
-        Some(found) => found.outputs.iter().any(|output| line_of(output) == line),
-        None => false,
+    let Some(found) = found else {
+        return false;
+    };
+    for output in &found.outputs {
+        if line_of(output) == line {
+            return true;
+        }
     }
+    false
 }
 
-// Warns of the output of the relay at this place, if its buffer is too small.
-fn put_of_output<A: Allocator + Copy>(
+// Warns of each of these buffers, which are too small for what the output sends.
+fn put_all<A: Allocator + Copy>(
     about: &WarnedPlan<'_, A>,
     forward: &Forward<'_, A>,
-    place: usize,
-    output: &Output<A>,
+    small: &[Taking],
+    notes: &mut Notes<A>,
+) -> Result<(), AllocError> {
+    for taking in small {
+        put_small(about, forward, *taking, notes)?;
+    }
+    Ok(())
+}
+
+// Warns of this one.
+fn put_small<A: Allocator + Copy>(
+    about: &WarnedPlan<'_, A>,
+    forward: &Forward<'_, A>,
+    small: Taking,
     notes: &mut Notes<A>,
 ) -> Result<(), AllocError> {
     let sent = most_bytes(&forward.settings.buffer);
-    let taken = match buffer_of(output) {
-        Some(buffer) => most_bytes(buffer),
-        None => sent,
-    };
-    if sent <= taken {
-        return Ok(());
-    }
+    let (place, line, taken) = small;
     let words = format!(in about.alloc;
         "an output sends chunks of up to {sent} bytes, each as one message, and a buffer that they come to takes {taken} at most: a greater chunk is refused each time, and stays for ever."
     )?;
-    notes.put_warning(about, words.as_str())?;
-    notes.put_place(about, forward.place, forward.line)?;
-    notes.put_place(about, place, line_of(output))
+    let sites = [(forward.place, forward.line), (place, line)];
+    notes.put_at(about, words.as_str(), &sites)
 }
 
 // The most bytes of events that the buffer sends or takes as one message.

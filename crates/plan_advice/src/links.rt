@@ -1,7 +1,7 @@
 //! The outputs of a plan that forward, and the sources that their servers lead to.
 
 use crate::flow::Numbers;
-use crate::warned_plan::{WarnedPlan, add_number};
+use crate::warned_plan::{WarnedPlan, add_number, no_numbers};
 use plan_lines::Plan;
 use relay_conf::{ForwardSettings, Output, Server, Source};
 use std::alloc::{AllocError, Allocator};
@@ -10,18 +10,20 @@ use std::alloc::{AllocError, Allocator};
 pub(crate) const MOST_OUTPUTS: usize = 65_536;
 
 /// An output that forwards: the place of its relay in the plan, its line, and how it forwards.
-#[derive(Clone, Copy)]
+#[derive(Drop)]
 pub(crate) struct Forward<'a, A: Allocator> {
     pub place: usize,
     pub line: usize,
     pub settings: &'a ForwardSettings<A>,
 }
 
-/// A server of such an output, and the source of the plan that it leads to, with the place of that
-/// one's relay.
-#[derive(Clone, Copy)]
+/// A server of such an output, with what is said of the output, and the source of the plan that it
+/// leads to, with the place of that one's relay.
+#[derive(Drop)]
 pub(crate) struct Link<'a, A: Allocator> {
-    pub from: Forward<'a, A>,
+    pub place: usize,
+    pub line: usize,
+    pub settings: &'a ForwardSettings<A>,
     pub server: &'a Server<A>,
     pub to: usize,
     pub source: &'a Source<A>,
@@ -67,7 +69,7 @@ pub(crate) fn links<'a, A: Allocator + Copy>(
 ) -> Result<Vec<Link<'a, A>, A>, AllocError> {
     let mut found = Vec::new(about.alloc);
     for from in forwards {
-        add_links(about.plan, *from, &mut found)?;
+        add_links(about.plan, from, &mut found)?;
     }
     Ok(found)
 }
@@ -79,12 +81,9 @@ pub(crate) fn relays_ahead<A: Allocator + Copy>(
     count: usize,
     links: &[Link<'_, A>],
 ) -> Result<Vec<Numbers<A>, A>, AllocError> {
-    let mut ahead = Vec::new(alloc);
-    for _ in 0..count {
-        ahead.push(Vec::new(alloc))?;
-    }
+    let mut ahead = no_numbers(alloc, count)?;
     for link in links {
-        add_number(&mut ahead, link.from.place, link.to)?;
+        add_number(&mut ahead, link.place, link.to)?;
     }
     Ok(ahead)
 }
@@ -92,7 +91,7 @@ pub(crate) fn relays_ahead<A: Allocator + Copy>(
 // Adds those of this output.
 fn add_links<'a, A: Allocator + Copy>(
     plan: &'a Plan<A>,
-    from: Forward<'a, A>,
+    from: &Forward<'a, A>,
     found: &mut Vec<Link<'a, A>, A>,
 ) -> Result<(), AllocError> {
     for server in &from.settings.servers {
@@ -106,23 +105,35 @@ fn add_links<'a, A: Allocator + Copy>(
 // The server with the source that it leads to: the first with its address.
 fn link_of<'a, A: Allocator + Copy>(
     plan: &'a Plan<A>,
-    from: Forward<'a, A>,
+    from: &Forward<'a, A>,
     server: &'a Server<A>,
 ) -> Option<Link<'a, A>> {
-    let to = plan
-        .net()
-        .entrance(server.host.as_bytes(), server.port)?
-        .relay;
-    let node = plan.net().relays().get(to)?;
-    let source = node
-        .relay
-        .sources
-        .iter()
-        .find(|source| source.port == server.port)?;
-    Some(Link {
-        from,
-        server,
-        to,
-        source,
-    })
+    let net = plan.net();
+    let Some(entrance) = net.entrance(server.host.as_bytes(), server.port) else {
+        return None;
+    };
+    let Some(node) = net.relays().get(entrance.relay) else {
+        return None;
+    };
+    match source_with(&node.relay.sources, server.port) {
+        Some(source) => Some(Link {
+            place: from.place,
+            line: from.line,
+            settings: from.settings,
+            server,
+            to: entrance.relay,
+            source,
+        }),
+        None => None,
+    }
+}
+
+// The first of these sources with this port.
+fn source_with<A: Allocator>(sources: &[Source<A>], port: u16) -> Option<&Source<A>> {
+    for source in sources {
+        if source.port == port {
+            return Some(source);
+        }
+    }
+    None
 }

@@ -36,6 +36,15 @@ fn add_of_line<'a, A: Allocator + Copy>(
             add(&client.patterns, near)?;
         }
     }
+    add_of_label(plan, line, near)
+}
+
+// Adds the patterns of the label in this line of the plan.
+fn add_of_label<'a, A: Allocator + Copy>(
+    plan: &'a Plan<A>,
+    line: usize,
+    near: &mut Lent<'a, A>,
+) -> Result<(), AllocError> {
     for label in plan.labels() {
         if label.line == line {
             add(&label.patterns, near)?;

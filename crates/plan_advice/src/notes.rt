@@ -48,6 +48,21 @@ impl<A: Allocator + Copy> Notes<A> {
         self.put(about.alloc, front.as_bytes())
     }
 
+    /// Adds a warning's sentence, and where that is, as `put_place` does: places of relays, and
+    /// lines of their configurations. The only error is want of memory.
+    pub fn put_at(
+        &mut self,
+        about: &WarnedPlan<'_, A>,
+        text: &str,
+        sites: &[(usize, usize)],
+    ) -> Result<(), AllocError> {
+        self.put_warning(about, text)?;
+        for (place, line) in sites {
+            self.put_place(about, *place, *line)?;
+        }
+        Ok(())
+    }
+
     /// Adds where that is: this line of the configuration of the relay at this place, and what
     /// stands there.
     pub fn put_place(
@@ -65,14 +80,7 @@ impl<A: Allocator + Copy> Notes<A> {
         about: &WarnedPlan<'_, A>,
         line: usize,
     ) -> Result<(), AllocError> {
-        let texts = about.texts;
-        let name = if line > texts.own_lines {
-            texts.added_name
-        } else {
-            texts.plan_name
-        };
-        let text = texts.plan;
-        self.put_site(about.alloc, &Site { name, text, line })
+        self.put_site(about.alloc, &about.texts.plan_site(line))
     }
 
     // Adds a line of a text: its name, its number, and what stands there.

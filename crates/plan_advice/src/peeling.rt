@@ -3,7 +3,7 @@
 
 use crate::flow::Numbers;
 use crate::search::{is_marked, next_of, put_mark};
-use crate::warned_plan::add_number;
+use crate::warned_plan::{add_number, no_numbers};
 use std::alloc::{AllocError, Allocator};
 
 /// The same steps, each from its end to its beginning. The only error is want of memory.
@@ -11,10 +11,7 @@ pub(crate) fn reversed<A: Allocator + Copy>(
     alloc: A,
     flow: &[Numbers<A>],
 ) -> Result<Vec<Numbers<A>, A>, AllocError> {
-    let mut back = Vec::new(alloc);
-    for _ in flow {
-        back.push(Vec::new(alloc))?;
-    }
+    let mut back = no_numbers(alloc, flow.len())?;
     for (number, next) in flow.iter().enumerate() {
         add_back(&mut back, next, number)?;
     }

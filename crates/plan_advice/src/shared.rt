@@ -61,10 +61,8 @@ fn add_place<'t, A: Allocator + Copy>(
     if let Some(alike) = found.get_mut(name) {
         return Ok(alike.places.push(place)?);
     }
-    let mut places = Vec::new(alloc);
-    places.push(place)?;
     let alike = Alike {
-        places,
+        places: Vec::from_slice(alloc, &[place])?,
         are_parted: false,
     };
     found.insert(name, alike)?;
@@ -80,7 +78,7 @@ fn part_all<'t, A: Allocator + Copy>(
     let mut servers = Vec::new(about.alloc);
     let mut output = None;
     for link in links {
-        let next = Some((link.from.place, link.from.line));
+        let next = Some((link.place, link.line));
         if next != output {
             part(about, &servers, found);
             servers.clear();
@@ -102,11 +100,21 @@ fn part<'t, A: Allocator + Copy>(
     for server in servers {
         if let Some(name) = about.texts.conf_names.get(*server)
             && let Some(alike) = found.get_mut(name)
-            && !alike.places.iter().all(|place| servers.contains(place))
+            && !are_among(&alike.places, servers)
         {
             alike.are_parted = true;
         }
     }
+}
+
+// Whether each of these relays is one of the servers.
+fn are_among(places: &[usize], servers: &[usize]) -> bool {
+    for place in places {
+        if !servers.contains(place) {
+            return false;
+        }
+    }
+    true
 }
 
 // Adds the warning of this configuration, with the plan's lines of the first of its relays.

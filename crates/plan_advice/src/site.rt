@@ -118,6 +118,21 @@ impl<'t> Site<'t> {
     }
 }
 
+/// The matches of this scope of the relay at this place; none where it isn't there.
+pub(crate) fn matches_of<A: Allocator + Copy>(
+    plan: &Plan<A>,
+    place: usize,
+    scope: usize,
+) -> &[MatchRule<A>] {
+    let Some(node) = plan.net().relays().get(place) else {
+        return &[];
+    };
+    match node.relay.scopes.get(scope) {
+        Some(scope) => &scope.matches,
+        None => &[],
+    }
+}
+
 /// The match that a line of a relay's configuration is in: its scope, and its index there.
 #[derive(Drop)]
 pub(crate) struct MatchSite<'n, A: Allocator> {
@@ -136,38 +151,43 @@ pub(crate) fn match_at<A: Allocator + Copy>(
         return None;
     };
     let net = plan.net();
-    let at = net.place(u64::from(relay))?;
-    let node = net.relays().get(at)?;
+    let Some(at) = net.place(u64::from(relay)) else {
+        return None;
+    };
+    let Some(node) = net.relays().get(at) else {
+        return None;
+    };
     let mut found = None;
     for (number, scope) in node.relay.scopes.iter().enumerate() {
         let here = Entrance {
             relay: at,
             scope: number,
         };
-        found = later(found, match_in(here, scope, line));
+        found = later_in(found, here, scope, line);
     }
     found
 }
 
-// The same of one scope.
-fn match_in<A: Allocator>(at: Entrance, scope: &Scope<A>, line: usize) -> Option<MatchSite<'_, A>> {
-    let mut found = None;
+// The last one of this and of those of one scope that begin there or before it.
+fn later_in<'n, A: Allocator>(
+    last: Option<MatchSite<'n, A>>,
+    at: Entrance,
+    scope: &'n Scope<A>,
+    line: usize,
+) -> Option<MatchSite<'n, A>> {
+    let mut found = last;
     for (index, rule) in scope.matches.iter().enumerate() {
-        if rule.line <= line {
-            found = later(found, Some(MatchSite { at, index, rule }));
+        if rule.line <= line && line_of(&found) <= rule.line {
+            found = Some(MatchSite { at, index, rule });
         }
     }
     found
 }
 
-// Of two matches the one that begins later.
-fn later<'n, A: Allocator>(
-    one: Option<MatchSite<'n, A>>,
-    other: Option<MatchSite<'n, A>>,
-) -> Option<MatchSite<'n, A>> {
-    match (one, other) {
-        (Some(one), Some(other)) if one.rule.line > other.rule.line => Some(one),
-        (one, None) => one,
-        (_, other) => other,
+// The line of this match; 0 of none.
+fn line_of<A: Allocator>(found: &Option<MatchSite<'_, A>>) -> usize {
+    match found {
+        Some(found) => found.rule.line,
+        None => 0,
     }
 }

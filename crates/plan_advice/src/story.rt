@@ -52,7 +52,7 @@ impl<A: Allocator + Copy> Story<'_, A> {
         match self.plan.client_lines().get(client) {
             Some(line) => {
                 let name = self.texts.plan_name;
-                self.put_of_line(out, "The client", *line, name, " sends an event.")
+                self.put_of_line(out, b"The client", *line, name, b" sends an event.")
             }
             None => Ok(()),
         }
@@ -80,14 +80,9 @@ impl<A: Allocator + Copy> Story<'_, A> {
         };
         match server(output, number) {
             Some(receiver) => {
+                let front = b"The chunk is sent to the server";
                 let name = self.conf_name(chunk.relay);
-                self.put_of_line(
-                    out,
-                    "The chunk is sent to the server",
-                    receiver.line,
-                    name,
-                    ".",
-                )
+                self.put_of_line(out, front, receiver.line, name, b".")
             }
             None => Ok(()),
         }
@@ -96,38 +91,41 @@ impl<A: Allocator + Copy> Story<'_, A> {
     fn put_done(&self, out: &mut Vec<u8, A>, chunk: &ChunkName) -> Result<(), AllocError> {
         self.put_of_output(
             out,
-            "It doesn't arrive. The output",
+            b"It doesn't arrive. The output",
             chunk.relay,
             chunk.buffer,
-            " asks for no acknowledgement, and lets the chunk go.",
+            b" asks for no acknowledgement, and lets the chunk go.",
         )
     }
 
     fn put_discard(&self, out: &mut Vec<u8, A>, chunk: &ChunkName) -> Result<(), AllocError> {
         self.put_of_output(
             out,
-            "The output",
+            b"The output",
             chunk.relay,
             chunk.buffer,
-            " doesn't retry for ever: the chunk is let go undelivered.",
+            b" doesn't retry for ever: the chunk is let go undelivered.",
         )
     }
 
     fn put_oldest(&self, out: &mut Vec<u8, A>, relay: u64, buffer: u64) -> Result<(), AllocError> {
         self.put_of_output(
             out,
-            "The buffer of the output",
+            b"The buffer of the output",
             relay,
             buffer,
-            " is full: its oldest chunk makes room.",
+            b" is full: its oldest chunk makes room.",
         )
     }
 
     fn put_restart(&self, out: &mut Vec<u8, A>, relay: u64) -> Result<(), AllocError> {
-        let note = format!(in self.alloc;
-            "Relay {relay} stops and starts again: what its buffers in memory held is gone."
-        )?;
-        put_note(out, note.as_bytes())
+        put_numbered(
+            self.alloc,
+            out,
+            &[b"Relay "],
+            relay as usize,
+            &[b" stops and starts again: what its buffers in memory held is gone."],
+        )
     }
 
     // Adds these words around the line of the output with this buffer of the relay with this
@@ -135,10 +133,10 @@ impl<A: Allocator + Copy> Story<'_, A> {
     fn put_of_output(
         &self,
         out: &mut Vec<u8, A>,
-        front: &str,
+        front: &[u8],
         relay: u64,
         buffer: u64,
-        end: &str,
+        end: &[u8],
     ) -> Result<(), AllocError> {
         match self.output(relay, buffer) {
             Some(output) => {
@@ -153,20 +151,27 @@ impl<A: Allocator + Copy> Story<'_, A> {
     fn put_of_line(
         &self,
         out: &mut Vec<u8, A>,
-        front: &str,
+        front: &[u8],
         line: usize,
         name: &str,
-        end: &str,
+        end: &[u8],
     ) -> Result<(), AllocError> {
-        let note = format!(in self.alloc; "{front} in line {line} of {name}{end}")?;
-        put_note(out, note.as_bytes())
+        put_numbered(
+            self.alloc,
+            out,
+            &[front, b" in line "],
+            line,
+            &[b" of ", name.as_bytes(), end],
+        )
     }
 
     // The output with this buffer of the relay with this number.
     fn output(&self, relay: u64, buffer: u64) -> Option<&Output<A>> {
         let net = self.plan.net();
-        let place = net.place(relay)?;
-        net.output(place, buffer as usize)
+        match net.place(relay) {
+            Some(place) => net.output(place, buffer as usize),
+            None => None,
+        }
     }
 
     // The name of the configuration of the relay with this number.
@@ -186,19 +191,62 @@ fn put_foreign<A: Allocator>(out: &mut Vec<u8, A>) -> Result<(), AllocError> {
 }
 
 /// Adds a line that says nothing to the machine: a heading and what is said under it.
-pub(crate) fn put_headed<A: Allocator + Copy>(
-    alloc: A,
+pub(crate) fn put_headed<A: Allocator>(
     out: &mut Vec<u8, A>,
-    heading: &str,
+    heading: &[u8],
     text: &str,
 ) -> Result<(), AllocError> {
-    let note = format!(in alloc; "{heading}: {text}.")?;
-    put_note(out, note.as_bytes())
+    put_joined(out, &[heading, b": ", text.as_bytes(), b"."])
 }
 
 /// Adds a line that says nothing to the machine.
 pub(crate) fn put_note<A: Allocator>(out: &mut Vec<u8, A>, note: &[u8]) -> Result<(), AllocError> {
+    put_joined(out, &[note])
+}
+
+/// Adds a line that says nothing to the machine, of these pieces.
+pub(crate) fn put_joined<A: Allocator>(
+    out: &mut Vec<u8, A>,
+    pieces: &[&[u8]],
+) -> Result<(), AllocError> {
     out.extend_from_slice(b"# ")?;
-    out.extend_from_slice(note)?;
+    put_end(out, pieces)
+}
+
+/// Adds a line that says nothing to the machine, of these pieces around a number.
+pub(crate) fn put_numbered<A: Allocator + Copy>(
+    alloc: A,
+    out: &mut Vec<u8, A>,
+    front: &[&[u8]],
+    number: usize,
+    end: &[&[u8]],
+) -> Result<(), AllocError> {
+    out.extend_from_slice(b"# ")?;
+    put_pieces(out, front)?;
+    put_number(alloc, out, number)?;
+    put_end(out, end)
+}
+
+// Adds these pieces, and the end of their line.
+fn put_end<A: Allocator>(out: &mut Vec<u8, A>, pieces: &[&[u8]]) -> Result<(), AllocError> {
+    put_pieces(out, pieces)?;
     out.extend_from_slice(b"\n")
+}
+
+// Adds these pieces.
+fn put_pieces<A: Allocator>(out: &mut Vec<u8, A>, pieces: &[&[u8]]) -> Result<(), AllocError> {
+    for piece in pieces {
+        out.extend_from_slice(piece)?;
+    }
+    Ok(())
+}
+
+// Adds the number.
+fn put_number<A: Allocator + Copy>(
+    alloc: A,
+    out: &mut Vec<u8, A>,
+    number: usize,
+) -> Result<(), AllocError> {
+    let text = format!(in alloc; "{number}")?;
+    out.extend_from_slice(text.as_bytes())
 }

@@ -34,6 +34,5 @@ fn put_wait<A: Allocator + Copy>(
     let words = format!(in about.alloc;
         "a server that takes a connection and doesn't answer holds each chunk of this output for {seconds} seconds (ack_response_timeout), and no other server is tried."
     )?;
-    notes.put_warning(about, words.as_str())?;
-    notes.put_place(about, forward.place, forward.line)
+    notes.put_at(about, words.as_str(), &[(forward.place, forward.line)])
 }

@@ -45,14 +45,23 @@ fn by_relay<A: Allocator + Copy>(
     alloc: A,
     plan: &Plan<A>,
 ) -> Result<Vec<Numbers<A>, A>, AllocError> {
-    let mut found = Vec::new(alloc);
-    for _ in plan.net().relays() {
-        found.push(Vec::new(alloc))?;
-    }
+    let mut found = no_numbers(alloc, plan.net().relays().len())?;
     for (number, reach) in plan.reaches().iter().enumerate() {
         add_number(&mut found, reach.place, number)?;
     }
     Ok(found)
+}
+
+/// So many lists without a number. The only error is want of memory.
+pub(crate) fn no_numbers<A: Allocator + Copy>(
+    alloc: A,
+    count: usize,
+) -> Result<Vec<Numbers<A>, A>, AllocError> {
+    let mut lists = Vec::new(alloc);
+    for _ in 0..count {
+        lists.push(Vec::new(alloc))?;
+    }
+    Ok(lists)
 }
 
 /// Adds a number to those at this place. The only error is want of memory.

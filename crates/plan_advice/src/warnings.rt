@@ -7,7 +7,7 @@ use crate::circles::put_circles;
 use crate::hosts::put_hosts;
 use crate::keys::put_keys;
 use crate::limits::put_limits;
-use crate::links::{forwards, links};
+use crate::links::{Forward, Link, forwards, links};
 use crate::notes::Notes;
 use crate::shared::put_shared;
 use crate::site::Texts;
@@ -33,7 +33,8 @@ pub fn put_warnings<A: Allocator + Copy>(
     ensures unchanged { OnErr result (lines.new.items ≡ lines.old.items) }
 {
     let about = WarnedPlan::new(alloc, plan, texts)?;
-    let notes = warnings(&about)?;
+    let mut notes = Notes::new(alloc);
+    put_all(&about, &mut notes)?;
     lines.extend_from_slice(notes.bytes())
 }
 
@@ -56,17 +57,35 @@ pub fn put_stale_reaches<A: Allocator + Copy>(
     lines.extend_from_slice(notes.bytes())
 }
 
-// The warnings, one kind after another, each in the order of the plan.
-fn warnings<A: Allocator + Copy>(about: &WarnedPlan<'_, A>) -> Result<Notes<A>, AllocError> {
-    let mut notes = Notes::new(about.alloc);
-    let forwards = forwards(about)?;
-    let links = links(about, &forwards)?;
-    put_circles(about, &links, &mut notes)?;
-    put_keys(about, &links, &mut notes)?;
-    put_hosts(about, &links, &mut notes)?;
-    put_limits(about, &forwards, &mut notes)?;
-    put_waits(about, &forwards, &mut notes)?;
-    put_shared(about, &links, &mut notes)?;
-    put_stale(about, &mut notes)?;
-    Ok(notes)
+// Adds the warnings, one kind after another, each in the order of the plan.
+fn put_all<A: Allocator + Copy>(
+    about: &WarnedPlan<'_, A>,
+    notes: &mut Notes<A>,
+) -> Result<(), AllocError> {
+    put_of_forwards(about, &forwards(about)?, notes)?;
+    put_stale(about, notes)
+}
+
+// Adds those of these outputs that forward.
+fn put_of_forwards<A: Allocator + Copy>(
+    about: &WarnedPlan<'_, A>,
+    forwards: &[Forward<'_, A>],
+    notes: &mut Notes<A>,
+) -> Result<(), AllocError> {
+    put_of_links(about, forwards, &links(about, forwards)?, notes)
+}
+
+// Adds those of these outputs, whose links are these.
+fn put_of_links<A: Allocator + Copy>(
+    about: &WarnedPlan<'_, A>,
+    forwards: &[Forward<'_, A>],
+    links: &[Link<'_, A>],
+    notes: &mut Notes<A>,
+) -> Result<(), AllocError> {
+    put_circles(about, links, notes)?;
+    put_keys(about, links, notes)?;
+    put_hosts(about, links, notes)?;
+    put_limits(about, forwards, notes)?;
+    put_waits(about, forwards, notes)?;
+    put_shared(about, links, notes)
 }

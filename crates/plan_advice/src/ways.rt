@@ -1,5 +1,6 @@
 //! The lines of a plan by which tags come to a place.
 
+use crate::flow::match_of;
 use loss_rules::Reach;
 use plan_lines::Plan;
 use relay_conf::{Output, Server};
@@ -133,30 +134,18 @@ fn enters<A: Allocator>(node: &Node<A>, port: u16, scope: usize) -> bool {
 
 // Whether an output of the match of the reach leads to the scope.
 fn leads_to<A: Allocator + Copy>(plan: &Plan<A>, reach: &Reach<A>, here: Entrance) -> bool {
-    let relays = plan.net().relays();
-    let Some(there) = relays.get(here.relay) else {
+    let Some(there) = plan.net().relays().get(here.relay) else {
         return false;
     };
-    for output in outputs_of(relays, reach) {
+    let Some(found) = match_of(plan, reach) else {
+        return false;
+    };
+    for output in &found.outputs {
         if goes_to(output, reach.place, there, here) {
             return true;
         }
     }
     false
-}
-
-// The outputs of the match of the reach.
-fn outputs_of<'n, A: Allocator>(relays: &'n [Node<A>], reach: &Reach<A>) -> &'n [Output<A>] {
-    let Some(node) = relays.get(reach.place) else {
-        return &[];
-    };
-    let Some(scope) = node.relay.scopes.get(reach.scope) else {
-        return &[];
-    };
-    match scope.matches.get(reach.rule) {
-        Some(rule) => &rule.outputs,
-        None => &[],
-    }
 }
 
 // Whether the output of the relay at this place goes to the scope of that relay.
