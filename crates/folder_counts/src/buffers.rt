@@ -95,21 +95,27 @@ impl<'a> Buffer<'a> {
     pub fn chunks(&self) -> ChunkCounts
         ensures { result ≡ chunks_in self.now.found }
     {
-        chunks_in(self.found)
+        match self.found {
+            Found::Chunks { chunks, .. } => chunks,
+            Found::Unsealed | Found::Damaged | Found::Unread => NO_CHUNKS,
+        }
     }
 
     /// When the oldest event in these happened; none where there are no events.
     pub fn oldest(&self) -> Option<Instant>
         ensures { result ≡ oldest_in self.now.found }
     {
-        oldest_in(self.found)
+        match self.found {
+            Found::Chunks { oldest, .. } => oldest,
+            Found::Unsealed | Found::Damaged | Found::Unread => None,
+        }
     }
 
     /// Whether its journal is read, and not damaged.
     pub fn is_sound(&self) -> bool
         ensures { result ≡ is_sound self.now.found }
     {
-        is_sound(self.found)
+        matches!(self.found, Found::Chunks { .. } | Found::Unsealed)
     }
 
     // The same once more.
@@ -152,31 +158,4 @@ fn is_unsealed(found: Found) -> bool
     ensures { result ≡ is_unsealed found }
 {
     matches!(found, Found::Unsealed)
-}
-
-// The live chunks that are found.
-fn chunks_in(found: Found) -> ChunkCounts
-    ensures { result ≡ chunks_in found }
-{
-    match found {
-        Found::Chunks { chunks, .. } => chunks,
-        Found::Unsealed | Found::Damaged | Found::Unread => NO_CHUNKS,
-    }
-}
-
-// When the oldest event in these chunks happened.
-fn oldest_in(found: Found) -> Option<Instant>
-    ensures { result ≡ oldest_in found }
-{
-    match found {
-        Found::Chunks { oldest, .. } => oldest,
-        Found::Unsealed | Found::Damaged | Found::Unread => None,
-    }
-}
-
-// Whether a journal is read, and not damaged.
-fn is_sound(found: Found) -> bool
-    ensures { result ≡ is_sound found }
-{
-    matches!(found, Found::Chunks { .. } | Found::Unsealed)
 }

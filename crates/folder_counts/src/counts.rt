@@ -8,7 +8,7 @@ use crate::instant::{Instant, later_instant};
 use std::alloc::AllocError;
 
 /// Live chunks, counted.
-#[derive(Clone, Copy, PartialEq, Eq)]
+#[derive(Clone, Copy)]
 pub struct ChunkCounts {
     /// How many chunks still grow.
     pub staged: u64,

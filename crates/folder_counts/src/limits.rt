@@ -25,7 +25,7 @@ use program_text::Status;
 use std::alloc::Allocator;
 
 /// How much a buffer may hold, queued and staged together; where there is no such number, any.
-#[derive(Clone, Copy, PartialEq, Eq)]
+#[derive(Clone, Copy)]
 pub struct Limits {
     /// The most bytes of entries.
     pub bytes: Option<u64>,
@@ -36,7 +36,7 @@ pub struct Limits {
 }
 
 /// How old an event may be.
-#[derive(Clone, Copy, PartialEq, Eq)]
+#[derive(Clone, Copy)]
 pub struct AgeLimit {
     /// The most whole seconds.
     pub seconds: u64,
