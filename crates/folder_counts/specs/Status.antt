@@ -21,6 +21,13 @@ text_of limits Lines folder outputs = status_lines limits folder outputs
 text_of limits Object folder outputs = status_object limits folder outputs
 text_of limits Metrics folder outputs = status_metrics folder outputs
 
+-- this is the text of a folder and of some outputs, which are those that are wanted
+pub record IsTextOfSome (wanted : List OutputView → Type 0) (limits : Limits) (form : Form)
+    (folder : FolderView) (text : List ℕ) : Type 0 where
+  pub outputs : List OutputView
+  pub are_wanted : wanted outputs
+  pub text_is : text ≡ text_of limits form folder outputs
+
 -- These files are counted, and this is the text of what they hold, in the order of names, and of
 -- what the relay says of its outputs; and the status that the files mean.
 pub record IsSaid (named : List ℕ → Option (List ℕ)) (files : List Named) (limits : Limits)

@@ -1,8 +1,9 @@
 //! The word `status`: what a data folder holds, counted and printed.
 
-ghost use Rattle.std.specs.Prelude.{◌≡◌, map, IfOk};
+ghost use Rattle.std.specs.Prelude.{◌≡◌, map, option_map, IfOk};
 ghost use Rattle.folder_listing.specs.Files.{named_of};
-ghost use Rattle.folder_counts.specs.Status.{text_of, IsSaid, PrintsStatus};
+ghost use Rattle.folder_counts.specs.Outputs.{state_name, AreOutputs, AreOutputsOf};
+ghost use Rattle.folder_counts.specs.Status.{text_of, IsSaid, IsTextOfSome, PrintsStatus};
 
 use crate::folder::{FolderCounts, count_folder};
 use crate::limits::{Limits, status_of};
@@ -16,7 +17,7 @@ use std::alloc::{AllocError, Allocator};
 use std::io::Write;
 
 /// In which form a folder's status is printed.
-#[derive(Clone, Copy, PartialEq, Eq)]
+#[derive(Clone, Copy)]
 pub enum Form {
     /// Lines of text.
     Lines,
@@ -70,11 +71,41 @@ fn say_status<A: Allocator + Copy, B: Allocator, O: OpenPlaced>(
 {
     let mut folder = count_folder(alloc, listed, files)?;
     folder.sort();
-    let state = state_text(alloc, files)?;
-    let outputs = outputs_of(alloc, &state)?;
-    let text = text_of(alloc, limits, form, &folder, &outputs)?;
+    let text = whole_text(alloc, files, limits, form, &folder)?;
     let status = status_of(limits, &folder);
     Ok(Said { text, status })
+}
+
+// The text of a folder, and of what its relay says of its outputs in a file there, in this form.
+// The error is want of memory.
+fn whole_text<A: Allocator + Copy, O: OpenPlaced>(
+    alloc: A,
+    files: &O,
+    limits: Limits,
+    form: Form,
+    folder: &FolderCounts<'_, A>,
+) -> Result<Vec<u8, A>, AllocError>
+    ensures { IfOk result (λ text. IsTextOfSome (AreOutputs (O.text_of files.now state_name)) limits
+        form folder.now text.items) }
+{
+    let state = state_text(alloc, files)?;
+    text_beside(alloc, limits, form, folder, &state)
+}
+
+// The same, where this is what the file says.
+fn text_beside<A: Allocator + Copy>(
+    alloc: A,
+    limits: Limits,
+    form: Form,
+    folder: &FolderCounts<'_, A>,
+    state: &Option<Vec<u8, A>>,
+) -> Result<Vec<u8, A>, AllocError>
+    ensures { IfOk result
+        (λ text. IsTextOfSome (AreOutputsOf (option_map (λ text. text.items) state.now)) limits
+        form folder.now text.items) }
+{
+    let outputs = outputs_of(alloc, state)?;
+    text_of(alloc, limits, form, folder, &outputs)
 }
 
 // The text of a folder and of its relay's outputs, in this form. The error is want of memory.
