@@ -10,6 +10,7 @@ pub mod Names
 pub mod Object
 pub mod Order
 pub mod Outputs
+pub mod Pieces
 pub mod Status
 pub mod Tallies
 pub mod Texts

@@ -1,9 +1,9 @@
 -- Samples in the text format of Prometheus, version 0.0.4.
-use Rattle.std.specs.Prelude.{ℕ, ◌==◌, ◌||◌, cond, List, [], ◌∷◌, ◌++◌, codes, decimal, Option, Some, None, option_map}
+use Rattle.std.specs.Prelude.{ℕ, List, [], ◌∷◌, ◌++◌, codes, Option, Some, None, option_map}
 use Rattle.std.specs.List.{flat_map}
 use Rattle.std.specs.Option.{option_map_or}
 use Rattle.program_text.specs.Lines.{line}
-use Rattle.folder_counts.specs.Times.{seconds_text}
+use Rattle.folder_counts.specs.Pieces.{escaped, piece_text}
 use Rattle.folder_counts.specs.Views.{BufferView, SinkView}
 use Rattle.folder_counts.specs.declared.buffers.Found.{Found}
 use Rattle.folder_counts.specs.declared.buffers.Found.TheVariants as found
@@ -12,26 +12,16 @@ use Rattle.folder_counts.specs.declared.counts.SinkCounts.{SinkCounts}
 use Rattle.folder_counts.specs.declared.instant.Instant.{Instant}
 use Rattle.folder_counts.specs.declared.metrics.BufferMetric.{BufferMetric}
 use Rattle.folder_counts.specs.declared.metrics.BufferMetric.TheVariants.{Sound, Staged, Queued, Entries, Bytes, Torn, Next, Oldest}
-use Rattle.folder_counts.specs.declared.metrics.Figure.{Figure}
-use Rattle.folder_counts.specs.declared.metrics.Figure.TheVariants as figure
 use Rattle.folder_counts.specs.declared.metrics.SinkMetric.{SinkMetric}
 use Rattle.folder_counts.specs.declared.metrics.SinkMetric.TheVariants as sink
-
--- a byte of a label's value: `\` in front of a quote and of `\`, and `\n` for a line feed
-abbrev pub escaped : ℕ → List ℕ
-escaped byte = cond ((byte == 34) || (byte == 92)) (92 ∷ byte ∷ [])
-    (cond (byte == 10) (92 ∷ 110 ∷ []) (byte ∷ []))
-
--- what a sample says: a number, or the seconds that so many nanoseconds are
-abbrev pub figure_text : Figure → List ℕ
-figure_text (figure.Number number) = decimal number
-figure_text (figure.Seconds nanos) = seconds_text nanos
+use Rattle.folder_counts.specs.declared.pieces.Piece.{Piece}
+use Rattle.folder_counts.specs.declared.pieces.Piece.TheVariants.{Number, Seconds}
 
 -- the line of a sample: the metric, a label up to the quote in front of its value, the value, and
 -- what it says
-abbrev pub sample_line : List ℕ → List ℕ → List ℕ → Figure → List ℕ
+abbrev pub sample_line : List ℕ → List ℕ → List ℕ → Piece → List ℕ
 sample_line metric label value says =
-    line (metric ++ label ++ flat_map escaped value ++ (34 ∷ 125 ∷ 32 ∷ []) ++ figure_text says)
+    line (metric ++ label ++ flat_map escaped value ++ (34 ∷ 125 ∷ 32 ∷ []) ++ piece_text says)
 
 -- a line that says something of a metric
 abbrev pub comment_line : List ℕ → List ℕ → List ℕ → List ℕ
@@ -68,23 +58,23 @@ buffer_help Oldest =
     codes "Time of the oldest event in all chunks, in seconds since the beginning of 1970."
 
 -- the seconds of an instant; none where there is none
-abbrev pub seconds_at : Option Instant → Option Figure
-seconds_at instant = option_map (λ at. figure.Seconds at.nanos) instant
+abbrev pub seconds_at : Option Instant → Option Piece
+seconds_at instant = option_map (λ at. Seconds at.nanos) instant
 
 -- what its sample says of a journal that is whole
-abbrev pub measured : BufferMetric → ChunkCounts → ℕ → ℕ → Option Instant → Option Figure
-measured Sound chunks torn next oldest = Some (figure.Number 1)
-measured Staged chunks torn next oldest = Some (figure.Number chunks.staged)
-measured Queued chunks torn next oldest = Some (figure.Number chunks.queued)
-measured Entries chunks torn next oldest = Some (figure.Number chunks.entries)
-measured Bytes chunks torn next oldest = Some (figure.Number chunks.bytes)
-measured Torn chunks torn next oldest = Some (figure.Number torn)
-measured Next chunks torn next oldest = Some (figure.Number next)
+abbrev pub measured : BufferMetric → ChunkCounts → ℕ → ℕ → Option Instant → Option Piece
+measured Sound chunks torn next oldest = Some (Number 1)
+measured Staged chunks torn next oldest = Some (Number chunks.staged)
+measured Queued chunks torn next oldest = Some (Number chunks.queued)
+measured Entries chunks torn next oldest = Some (Number chunks.entries)
+measured Bytes chunks torn next oldest = Some (Number chunks.bytes)
+measured Torn chunks torn next oldest = Some (Number torn)
+measured Next chunks torn next oldest = Some (Number next)
 measured Oldest chunks torn next oldest = seconds_at oldest
 
 -- the same of another: only whether the journal is sound is known
-abbrev pub only_sound : BufferMetric → ℕ → Option Figure
-only_sound Sound number = Some (figure.Number number)
+abbrev pub only_sound : BufferMetric → ℕ → Option Piece
+only_sound Sound number = Some (Number number)
 only_sound Staged number = None
 only_sound Queued number = None
 only_sound Entries number = None
@@ -94,7 +84,7 @@ only_sound Next number = None
 only_sound Oldest number = None
 
 -- what its sample says where this is found
-abbrev pub buffer_figure : BufferMetric → Found → Option Figure
+abbrev pub buffer_figure : BufferMetric → Found → Option Piece
 buffer_figure metric (found.Chunks chunks torn next oldest) =
     measured metric chunks torn next oldest
 buffer_figure metric found.Unsealed = only_sound metric 1
@@ -112,16 +102,10 @@ abbrev pub buffer_family : BufferMetric → List BufferView → List ℕ
 buffer_family metric buffers = head_lines (buffer_name metric) (buffer_help metric) (codes "gauge")
     ++ flat_map (buffer_sample metric) buffers
 
--- a text, and behind it the metrics of what is counted of buffers
-abbrev pub with_buffer_counts : List ℕ → List BufferView → List ℕ
-with_buffer_counts text buffers =
-    text ++ buffer_family Staged buffers ++ buffer_family Queued buffers
-    ++ buffer_family Entries buffers ++ buffer_family Bytes buffers
-    ++ buffer_family Torn buffers ++ buffer_family Next buffers
-
--- the same, and behind that the one of their oldest events
+-- a text, and behind it the metrics of buffers
 abbrev pub with_buffers : List ℕ → List BufferView → List ℕ
-with_buffers text buffers = with_buffer_counts text buffers ++ buffer_family Oldest buffers
+with_buffers text buffers = text ++ flat_map (λ metric. buffer_family metric buffers)
+    (Sound ∷ Staged ∷ Queued ∷ Entries ∷ Bytes ∷ Torn ∷ Next ∷ Oldest ∷ [])
 
 -- ---- sinks
 
@@ -149,13 +133,13 @@ sink_help sink.Newest =
     "Time of the newest event in all files of the sink, in seconds since the beginning of 1970."
 
 -- what its sample says of these counts
-abbrev pub sink_figure : SinkMetric → SinkCounts → Option Figure
-sink_figure sink.Files counts = Some (figure.Number counts.files)
-sink_figure sink.Events counts = Some (figure.Number counts.events)
-sink_figure sink.Bytes counts = Some (figure.Number counts.bytes)
-sink_figure sink.Torn counts = Some (figure.Number counts.torn)
-sink_figure sink.Damaged counts = Some (figure.Number counts.damaged)
-sink_figure sink.Unread counts = Some (figure.Number counts.unread)
+abbrev pub sink_figure : SinkMetric → SinkCounts → Option Piece
+sink_figure sink.Files counts = Some (Number counts.files)
+sink_figure sink.Events counts = Some (Number counts.events)
+sink_figure sink.Bytes counts = Some (Number counts.bytes)
+sink_figure sink.Torn counts = Some (Number counts.torn)
+sink_figure sink.Damaged counts = Some (Number counts.damaged)
+sink_figure sink.Unread counts = Some (Number counts.unread)
 sink_figure sink.Newest counts = seconds_at counts.newest_event
 
 -- its sample of a sink; nothing where it says nothing
@@ -169,13 +153,8 @@ abbrev pub sink_family : SinkMetric → List SinkView → List ℕ
 sink_family metric sinks = head_lines (sink_name metric) (sink_help metric) (codes "gauge")
     ++ flat_map (sink_sample metric) sinks
 
--- a text, and behind it the metrics of what is counted of sinks
-abbrev pub with_sink_counts : List ℕ → List SinkView → List ℕ
-with_sink_counts text sinks =
-    text ++ sink_family sink.Files sinks ++ sink_family sink.Events sinks
-    ++ sink_family sink.Bytes sinks ++ sink_family sink.Torn sinks
-    ++ sink_family sink.Damaged sinks ++ sink_family sink.Unread sinks
-
--- the same, and behind that the one of their newest events
+-- a text, and behind it the metrics of sinks
 abbrev pub with_sinks : List ℕ → List SinkView → List ℕ
-with_sinks text sinks = with_sink_counts text sinks ++ sink_family sink.Newest sinks
+with_sinks text sinks = text ++ flat_map (λ metric. sink_family metric sinks)
+    (sink.Files ∷ sink.Events ∷ sink.Bytes ∷ sink.Torn ∷ sink.Damaged ∷ sink.Unread ∷ sink.Newest
+    ∷ [])

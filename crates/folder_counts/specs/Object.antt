@@ -13,6 +13,8 @@ use Rattle.folder_counts.specs.declared.counts.ChunkCounts.{ChunkCounts}
 use Rattle.folder_counts.specs.declared.counts.SinkCounts.{SinkCounts}
 use Rattle.folder_counts.specs.declared.instant.Instant.{Instant}
 use Rattle.folder_counts.specs.declared.limits.Limits.{Limits}
+use Rattle.folder_counts.specs.declared.object.Member.{Member}
+use Rattle.folder_counts.specs.declared.object.Member.TheVariants.{Begin, Number, Word, End}
 
 -- a writer has these tokens now, behind what it had before all of them
 pub record Becomes (old new : Written) (tokens : List Token) : Type 0 where
@@ -26,6 +28,17 @@ with_number tokens name value = (tokens ++ key name ∷ []) ++ number (decimal v
 -- a member whose value is a text
 abbrev pub with_word : List Token → List ℕ → List ℕ → List Token
 with_word tokens name word = (tokens ++ key name ∷ []) ++ string word ∷ []
+
+-- tokens, and behind them what an object is written of
+abbrev pub with_member : List Token → Member → List Token
+with_member tokens Begin = tokens ++ begin_object ∷ []
+with_member tokens (Number name value) = with_number tokens name.now value
+with_member tokens (Word name word) = with_word tokens name.now word.now
+with_member tokens End = tokens ++ end_object ∷ []
+
+-- the beginning of a member whose value is a list
+abbrev pub with_list : List Token → List ℕ → List Token
+with_list tokens name = (tokens ++ key name ∷ []) ++ begin_array ∷ []
 
 -- the beginning of an object that has a name
 abbrev pub with_name : List Token → List ℕ → List Token
@@ -73,7 +86,7 @@ with_buffer tokens buffer = with_found (with_name tokens buffer.path) buffer.fou
 -- the member of these buffers
 abbrev pub with_buffers : List Token → List BufferView → List Token
 with_buffers tokens buffers =
-    fold with_buffer ((tokens ++ key (codes "buffers") ∷ []) ++ begin_array ∷ []) buffers
+    fold with_buffer (with_list tokens (codes "buffers")) buffers
     ++ end_array ∷ []
 
 -- the members of what files of a sink count to
@@ -98,7 +111,7 @@ with_sink tokens sink = with_newest (with_counts (with_name tokens sink.path) si
 -- the member of these sinks
 abbrev pub with_sinks : List Token → List SinkView → List Token
 with_sinks tokens sinks =
-    fold with_sink ((tokens ++ key (codes "sinks") ∷ []) ++ begin_array ∷ []) sinks
+    fold with_sink (with_list tokens (codes "sinks")) sinks
     ++ end_array ∷ []
 
 -- the member of what these buffers hold together
@@ -123,4 +136,4 @@ with_over limits tokens buffer =
 -- the member of the limits that these buffers are above
 abbrev pub with_overs : List Token → Limits → List BufferView → List Token
 with_overs tokens limits buffers = fold (with_over limits)
-    ((tokens ++ key (codes "over") ∷ []) ++ begin_array ∷ []) buffers ++ end_array ∷ []
+    (with_list tokens (codes "over")) buffers ++ end_array ∷ []

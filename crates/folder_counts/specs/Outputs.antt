@@ -3,7 +3,7 @@ use Rattle.std.specs.Prelude.{ℕ, ℤ, pos, ◌≡◌, ◌==◌, ◌*◌, ◌/�
 use Rattle.std.specs.List.{flat_map, AllByRecursion}
 use Rattle.std.specs.Option.{option_map_or}
 use Rattle.conf_values.specs.Words.{is_path}
-use Rattle.json.specs.Token.{Token, begin_object, end_object, begin_array, end_array, key, string, null}
+use Rattle.json.specs.Token.{Token, begin_object, end_object, end_array, key, string, null}
 use Rattle.output_state.specs.Rows.{states_in}
 use Rattle.output_state.specs.State.{StateView}
 use Rattle.output_state.specs.declared.state.OutputCounts.{OutputCounts}
@@ -13,13 +13,13 @@ use Rattle.folder_counts.specs.Instants.{IsSameTime}
 use Rattle.folder_counts.specs.Limits.{chunks_in, is_sound}
 use Rattle.folder_counts.specs.Lines.{time_field}
 use Rattle.folder_counts.specs.Metrics.{head_lines, sample_line, seconds_at}
-use Rattle.folder_counts.specs.Object.{with_number, with_time}
+use Rattle.folder_counts.specs.Object.{with_list, with_number, with_time}
 use Rattle.folder_counts.specs.Times.{second}
 use Rattle.folder_counts.specs.Views.{BufferView, OutputView}
-use Rattle.folder_counts.specs.declared.metrics.Figure.{Figure}
-use Rattle.folder_counts.specs.declared.metrics.Figure.TheVariants.{Number}
 use Rattle.folder_counts.specs.declared.outputs_metrics.OutputMetric.{OutputMetric}
 use Rattle.folder_counts.specs.declared.outputs_metrics.OutputMetric.TheVariants.{Limit, Failing, Failures, Delivered, Last}
+use Rattle.folder_counts.specs.declared.pieces.Piece.{Piece}
+use Rattle.folder_counts.specs.declared.pieces.Piece.TheVariants.{Number}
 
 -- ---- where it is said
 
@@ -138,7 +138,7 @@ with_output buffers tokens output = with_members buffers (tokens ++ begin_object
 abbrev pub with_outputs : List Token → List BufferView → List OutputView → List Token
 with_outputs tokens buffers [] = tokens
 with_outputs tokens buffers (first ∷ more) = fold (with_output buffers)
-    ((tokens ++ key (codes "outputs") ∷ []) ++ begin_array ∷ []) (first ∷ more) ++ end_array ∷ []
+    (with_list tokens (codes "outputs")) (first ∷ more) ++ end_array ∷ []
 
 -- ---- samples
 
@@ -170,7 +170,7 @@ output_type Delivered = codes "counter"
 output_type Last = codes "gauge"
 
 -- what its sample says of an output
-abbrev pub output_figure : OutputMetric → OutputView → Option Figure
+abbrev pub output_figure : OutputMetric → OutputView → Option Piece
 output_figure Limit output = Some (Number output.state.counts.limit)
 output_figure Failing output = Some (Number output.state.counts.failing)
 output_figure Failures output = Some (Number output.state.counts.failures)
@@ -193,10 +193,9 @@ output_family metric outputs = head_lines (output_name metric) (output_help metr
     (output_type metric) ++ flat_map (output_sample metric) outputs
 
 -- a text, and behind it the metrics of these outputs
-unfoldable pub with_families : List ℕ → List OutputView → List ℕ
-with_families text outputs = text ++ output_family Limit outputs ++ output_family Failing outputs
-    ++ output_family Failures outputs ++ output_family Delivered outputs
-    ++ output_family Last outputs
+abbrev pub with_families : List ℕ → List OutputView → List ℕ
+with_families text outputs = text ++ flat_map (λ metric. output_family metric outputs)
+    (Limit ∷ Failing ∷ Failures ∷ Delivered ∷ Last ∷ [])
 
 -- the same; nothing behind it where there are no outputs
 abbrev pub with_samples : List ℕ → List OutputView → List ℕ

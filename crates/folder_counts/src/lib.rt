@@ -19,6 +19,7 @@ mod outputs_lines;
 mod outputs_metrics;
 mod outputs_object;
 mod parts;
+mod pieces;
 mod sinks;
 mod spelling;
 mod status;

@@ -1,10 +1,10 @@
 //! The lines of a folder: those of buffers and sinks, and of what they hold together.
 
-ghost use Rattle.std.specs.Prelude.{◌≡◌, ◌++◌, codes, decimal, IfOk, OnOk};
+ghost use Rattle.std.specs.Prelude.{◌≡◌, ◌++◌, [], cond, decimal, IfOk, OnOk};
 ghost use Rattle.std.specs.List.{flat_map};
 ghost use Rattle.program_text.specs.Lines.{line};
+ghost use Rattle.folder_counts.specs.Limits.{is_above};
 ghost use Rattle.folder_counts.specs.Lines.{
-  above_line,
   buffer_line,
   flaw_line,
   over_lines,
@@ -25,6 +25,7 @@ use crate::instant::Instant;
 use crate::limits::{Limits, is_above};
 use crate::outputs::Output;
 use crate::outputs_lines::put_outputs;
+use crate::pieces::{Piece, put_pieces};
 use crate::sinks::Sink;
 use crate::times::put_instant;
 use std::alloc::{AllocError, Allocator};
@@ -49,29 +50,6 @@ pub(crate) fn status_lines<A: Allocator + Copy>(
     Ok(lines)
 }
 
-/// Adds a word and a number.
-pub(crate) fn put_field<A: Allocator + Copy>(
-    alloc: A,
-    line: &mut Vec<u8, A>,
-    word: &[u8],
-    number: u64,
-) -> Result<(), AllocError>
-    ensures { OnOk result (line.new.items ≡ line.old.items ++ word.now ++ decimal number) }
-{
-    let digits = format!(in alloc; "{number}")?;
-    line.extend_from_slice(word)?;
-    line.extend_from_slice(digits.as_bytes())
-}
-
-// The beginning of a line: a word, and a name.
-fn begun<A: Allocator + Copy>(alloc: A, word: &[u8], name: &str) -> Result<Vec<u8, A>, AllocError>
-    ensures { IfOk result (λ line. line.items ≡ word.now ++ name.now) }
-{
-    let mut line = Vec::from_slice(alloc, word)?;
-    line.extend_from_slice(name.as_bytes())?;
-    Ok(line)
-}
-
 // Adds the lines of these buffers.
 fn put_buffers<A: Allocator + Copy>(
     alloc: A,
@@ -94,8 +72,8 @@ fn put_buffer<A: Allocator + Copy>(
 ) -> Result<(), AllocError>
     ensures { OnOk result (lines.new.items ≡ lines.old.items ++ buffer_line buffer.now) }
 {
-    lines.extend_from_slice(b"buffer ")?;
-    lines.extend_from_slice(buffer.path().as_bytes())?;
+    let path = buffer.path().as_bytes();
+    put_pieces(alloc, lines, &[Piece::Text(b"buffer "), Piece::Text(path)])?;
     put_found(alloc, lines, buffer.found())?;
     lines.extend_from_slice(b"\n")
 }
@@ -134,8 +112,16 @@ fn put_whole<A: Allocator + Copy>(
         (line.new.items ≡ with_found line.old.items (Found.Chunks chunks torn next oldest)) }
 {
     put_chunks(alloc, line, chunks)?;
-    put_field(alloc, line, b" torn ", torn)?;
-    put_field(alloc, line, b" next ", next)?;
+    put_pieces(
+        alloc,
+        line,
+        &[
+            Piece::Text(b" torn "),
+            Piece::Number(torn),
+            Piece::Text(b" next "),
+            Piece::Number(next),
+        ],
+    )?;
     put_time(alloc, line, b" oldest event ", oldest)
 }
 
@@ -163,10 +149,20 @@ fn put_chunks<A: Allocator + Copy>(
 ) -> Result<(), AllocError>
     ensures { OnOk result (line.new.items ≡ with_chunks line.old.items chunks) }
 {
-    put_field(alloc, line, b" staged ", chunks.staged)?;
-    put_field(alloc, line, b" queued ", chunks.queued)?;
-    put_field(alloc, line, b" entries ", chunks.entries)?;
-    put_field(alloc, line, b" bytes ", chunks.bytes)
+    put_pieces(
+        alloc,
+        line,
+        &[
+            Piece::Text(b" staged "),
+            Piece::Number(chunks.staged),
+            Piece::Text(b" queued "),
+            Piece::Number(chunks.queued),
+            Piece::Text(b" entries "),
+            Piece::Number(chunks.entries),
+            Piece::Text(b" bytes "),
+            Piece::Number(chunks.bytes),
+        ],
+    )
 }
 
 // Adds the lines of these sinks.
@@ -178,101 +174,68 @@ fn put_sinks<A: Allocator + Copy>(
     ensures { OnOk result (lines.new.items ≡ lines.old.items ++ flat_map sink_lines sinks.now) }
 {
     for sink in sinks {
-        let all = sink_lines(alloc, sink)?;
-        lines.extend_from_slice(&all)?;
+        put_sink(alloc, lines, sink)?;
     }
     Ok(())
 }
 
-// The line of a sink, and behind it those that say that some of its files are damaged, or aren't
-// read.
-fn sink_lines<A: Allocator + Copy>(alloc: A, sink: &Sink<'_>) -> Result<Vec<u8, A>, AllocError>
-    ensures { IfOk result (λ lines. lines.items ≡ sink_lines sink.now) }
-{
-    let counts = sink.counts();
-    let mut lines = sink_line(alloc, sink)?;
-    put_flaw(alloc, &mut lines, sink.path(), b" damaged ", counts.damaged)?;
-    put_flaw(alloc, &mut lines, sink.path(), b" unread ", counts.unread)?;
-    Ok(lines)
-}
-
-// The line of a sink.
-fn sink_line<A: Allocator + Copy>(alloc: A, sink: &Sink<'_>) -> Result<Vec<u8, A>, AllocError>
-    ensures { IfOk result (λ line. line.items ≡ sink_line sink.now) }
-{
-    let mut line = begun(alloc, b"sink ", sink.path())?;
-    put_counts(alloc, &mut line, sink.counts())?;
-    put_newest(alloc, &mut line, sink)?;
-    line.extend_from_slice(b"\n")?;
-    Ok(line)
-}
-
-// Adds what the files of a sink count to.
-fn put_counts<A: Allocator + Copy>(
+// Adds the line of a sink, and behind it those that say that some of its files are damaged, or
+// aren't read.
+fn put_sink<A: Allocator + Copy>(
     alloc: A,
-    line: &mut Vec<u8, A>,
-    counts: SinkCounts,
-) -> Result<(), AllocError>
-    ensures { OnOk result (line.new.items
-        ≡ line.old.items ++ codes " files " ++ decimal counts.files
-        ++ codes " events " ++ decimal counts.events
-        ++ codes " bytes " ++ decimal counts.bytes
-        ++ codes " torn " ++ decimal counts.torn) }
-{
-    put_field(alloc, line, b" files ", counts.files)?;
-    put_field(alloc, line, b" events ", counts.events)?;
-    put_field(alloc, line, b" bytes ", counts.bytes)?;
-    put_field(alloc, line, b" torn ", counts.torn)
-}
-
-// Adds the newest file of a sink, and its newest event.
-fn put_newest<A: Allocator + Copy>(
-    alloc: A,
-    line: &mut Vec<u8, A>,
+    lines: &mut Vec<u8, A>,
     sink: &Sink<'_>,
 ) -> Result<(), AllocError>
-    ensures { OnOk result (line.new.items
-        ≡ line.old.items ++ codes " newest " ++ sink.now.newest
-        ++ time_field (codes " newest event ") sink.now.counts.newest_event) }
+    ensures { OnOk result (lines.new.items ≡ lines.old.items ++ sink_lines sink.now) }
 {
     let counts = sink.counts();
-    line.extend_from_slice(b" newest ")?;
-    line.extend_from_slice(sink.newest().as_bytes())?;
-    put_time(alloc, line, b" newest event ", counts.newest_event)
+    put_sink_line(alloc, lines, sink)?;
+    put_flaw(alloc, lines, sink.path(), b" damaged ", counts.damaged)?;
+    put_flaw(alloc, lines, sink.path(), b" unread ", counts.unread)
+}
+
+// Adds the line of a sink.
+fn put_sink_line<A: Allocator + Copy>(
+    alloc: A,
+    lines: &mut Vec<u8, A>,
+    sink: &Sink<'_>,
+) -> Result<(), AllocError>
+    ensures { OnOk result (lines.new.items ≡ lines.old.items ++ sink_line sink.now) }
+{
+    let counts = sink.counts();
+    put_pieces(
+        alloc,
+        lines,
+        &[
+            Piece::Text(b"sink "),
+            Piece::Text(sink.path().as_bytes()),
+            Piece::Text(b" files "),
+            Piece::Number(counts.files),
+            Piece::Text(b" events "),
+            Piece::Number(counts.events),
+            Piece::Text(b" bytes "),
+            Piece::Number(counts.bytes),
+            Piece::Text(b" torn "),
+            Piece::Number(counts.torn),
+            Piece::Text(b" newest "),
+            Piece::Text(sink.newest().as_bytes()),
+        ],
+    )?;
+    put_time(alloc, lines, b" newest event ", counts.newest_event)?;
+    lines.extend_from_slice(b"\n")
 }
 
 // Adds the line that says of how many files of a sink this is true; nothing where there are none.
-fn put_flaw<A: Allocator + Copy>(
+fn put_flaw<'a, A: Allocator + Copy>(
     alloc: A,
     lines: &mut Vec<u8, A>,
-    name: &str,
-    word: &[u8],
+    name: &'a str,
+    word: &'a [u8],
     files: u64,
 ) -> Result<(), AllocError>
     ensures { OnOk result (lines.new.items ≡ lines.old.items ++ flaw_line name.now word.now files) }
 {
-    if files == 0 {
-        return Ok(());
-    }
-    put_number(alloc, lines, b"sink ", name, word, files)
-}
-
-// Adds a line of a number: what it is of, by a word and a name, another word, and the number.
-fn put_number<A: Allocator + Copy>(
-    alloc: A,
-    lines: &mut Vec<u8, A>,
-    front: &[u8],
-    name: &str,
-    word: &[u8],
-    number: u64,
-) -> Result<(), AllocError>
-    ensures { OnOk result (lines.new.items
-        ≡ lines.old.items ++ line (front.now ++ name.now ++ word.now ++ decimal number)) }
-{
-    lines.extend_from_slice(front)?;
-    lines.extend_from_slice(name.as_bytes())?;
-    put_field(alloc, lines, word, number)?;
-    lines.extend_from_slice(b"\n")
+    put_above(alloc, lines, b"sink ", name, word, Some(0), files)
 }
 
 // Adds the line of what these buffers hold together.
@@ -283,10 +246,10 @@ fn put_total<A: Allocator + Copy>(
 ) -> Result<(), AllocError>
     ensures { OnOk result (lines.new.items ≡ lines.old.items ++ total_line buffers.now) }
 {
-    let mut line = Vec::from_slice(alloc, b"total")?;
-    put_chunks(alloc, &mut line, total_of(buffers)?)?;
-    line.extend_from_slice(b"\n")?;
-    lines.extend_from_slice(&line)
+    let sum = total_of(buffers)?;
+    lines.extend_from_slice(b"total")?;
+    put_chunks(alloc, lines, sum)?;
+    lines.extend_from_slice(b"\n")
 }
 
 /// What these buffers hold together. The error is want of memory for a number of 2^64 or more.
@@ -325,11 +288,15 @@ fn put_over<A: Allocator + Copy>(
 ) -> Result<(), AllocError>
     ensures { OnOk result (lines.new.items ≡ lines.old.items ++ over_lines limits buffer.now) }
 {
+    let path = buffer.path();
     let chunks = buffer.chunks();
+    let number = chunks.number()?;
+    let age = limits.age(buffer.oldest());
     put_above(
         alloc,
         lines,
-        buffer.path(),
+        b"over ",
+        path,
         b" bytes ",
         limits.bytes,
         chunks.bytes,
@@ -337,35 +304,50 @@ fn put_over<A: Allocator + Copy>(
     put_above(
         alloc,
         lines,
-        buffer.path(),
+        b"over ",
+        path,
         b" chunks ",
         limits.chunks,
-        chunks.number()?,
+        number,
     )?;
     put_above(
         alloc,
         lines,
-        buffer.path(),
+        b"over ",
+        path,
         b" age ",
         limits.most_age(),
-        limits.age(buffer.oldest()),
+        age,
     )
 }
 
-// Adds the line of a number that is above its limit; nothing of another.
-fn put_above<A: Allocator + Copy>(
+// Adds the line of a number that is above its limit, by what it is of, a word and a name, and by
+// another word; nothing of another number.
+fn put_above<'a, A: Allocator + Copy>(
     alloc: A,
     lines: &mut Vec<u8, A>,
-    name: &str,
-    word: &[u8],
+    front: &'a [u8],
+    name: &'a str,
+    word: &'a [u8],
     most: Option<u64>,
     number: u64,
 ) -> Result<(), AllocError>
-    ensures { OnOk result (lines.new.items
-        ≡ lines.old.items ++ above_line name.now word.now most number) }
+    ensures { OnOk result (lines.new.items ≡ lines.old.items
+        ++ cond (is_above most number) (line (front.now ++ name.now ++ word.now ++ decimal number))
+        []) }
 {
     if !is_above(most, number) {
         return Ok(());
     }
-    put_number(alloc, lines, b"over ", name, word, number)
+    put_pieces(
+        alloc,
+        lines,
+        &[
+            Piece::Text(front),
+            Piece::Text(name.as_bytes()),
+            Piece::Text(word),
+            Piece::Number(number),
+            Piece::Text(b"\n"),
+        ],
+    )
 }

@@ -1,6 +1,6 @@
 //! Samples in the text format of Prometheus, version 0.0.4.
 
-ghost use Rattle.std.specs.Prelude.{◌≡◌, ◌++◌, ◌∷◌, [], IfOk, OnOk};
+ghost use Rattle.std.specs.Prelude.{◌≡◌, ◌++◌, IfOk, OnOk};
 ghost use Rattle.std.specs.List.{flat_map};
 ghost use Rattle.folder_counts.specs.Metrics.{
   buffer_family,
@@ -8,9 +8,6 @@ ghost use Rattle.folder_counts.specs.Metrics.{
   buffer_help,
   buffer_name,
   buffer_sample,
-  comment_line,
-  escaped,
-  figure_text,
   head_lines,
   measured,
   only_sound,
@@ -21,10 +18,6 @@ ghost use Rattle.folder_counts.specs.Metrics.{
   sink_help,
   sink_name,
   sink_sample,
-  with_buffer_counts,
-  with_buffers,
-  with_sink_counts,
-  with_sinks,
 };
 ghost use Rattle.folder_counts.specs.Texts.{status_metrics};
 
@@ -32,24 +25,14 @@ use crate::buffers::{Buffer, Found};
 use crate::counts::{ChunkCounts, SinkCounts};
 use crate::folder::FolderCounts;
 use crate::instant::Instant;
-use crate::lines::put_field;
 use crate::outputs::Output;
 use crate::outputs_metrics::put_outputs;
+use crate::pieces::{Piece, put_pieces};
 use crate::sinks::Sink;
-use crate::times::put_seconds;
 use std::alloc::{AllocError, Allocator};
 
-/// What a sample says.
-#[derive(Clone, Copy, PartialEq, Eq)]
-pub(crate) enum Figure {
-    /// This number.
-    Number(u64),
-    /// The seconds that so many nanoseconds are.
-    Seconds(i128),
-}
-
 // What is measured of a buffer.
-#[derive(Clone, Copy, PartialEq, Eq)]
+#[derive(Clone, Copy)]
 enum BufferMetric {
     Sound,
     Staged,
@@ -60,6 +43,18 @@ enum BufferMetric {
     Next,
     Oldest,
 }
+
+// All of them, in the order of the samples.
+const BUFFER_METRICS: [BufferMetric; 8] = [
+    BufferMetric::Sound,
+    BufferMetric::Staged,
+    BufferMetric::Queued,
+    BufferMetric::Entries,
+    BufferMetric::Bytes,
+    BufferMetric::Torn,
+    BufferMetric::Next,
+    BufferMetric::Oldest,
+];
 
 impl BufferMetric {
     // Its name.
@@ -96,7 +91,7 @@ impl BufferMetric {
     }
 
     // What its sample says where this is found; none where nothing is counted there.
-    fn figure(self, found: Found) -> Option<Figure>
+    fn figure(self, found: Found) -> Option<Piece<'static>>
         ensures { result ≡ buffer_figure self found }
     {
         match found {
@@ -119,27 +114,27 @@ impl BufferMetric {
         torn: u64,
         next: u64,
         oldest: Option<Instant>,
-    ) -> Option<Figure>
+    ) -> Option<Piece<'static>>
         ensures { result ≡ measured self chunks torn next oldest }
     {
         match self {
-            BufferMetric::Sound => Some(Figure::Number(1)),
-            BufferMetric::Staged => Some(Figure::Number(chunks.staged)),
-            BufferMetric::Queued => Some(Figure::Number(chunks.queued)),
-            BufferMetric::Entries => Some(Figure::Number(chunks.entries)),
-            BufferMetric::Bytes => Some(Figure::Number(chunks.bytes)),
-            BufferMetric::Torn => Some(Figure::Number(torn)),
-            BufferMetric::Next => Some(Figure::Number(next)),
+            BufferMetric::Sound => Some(Piece::Number(1)),
+            BufferMetric::Staged => Some(Piece::Number(chunks.staged)),
+            BufferMetric::Queued => Some(Piece::Number(chunks.queued)),
+            BufferMetric::Entries => Some(Piece::Number(chunks.entries)),
+            BufferMetric::Bytes => Some(Piece::Number(chunks.bytes)),
+            BufferMetric::Torn => Some(Piece::Number(torn)),
+            BufferMetric::Next => Some(Piece::Number(next)),
             BufferMetric::Oldest => seconds_at(oldest),
         }
     }
 
     // The same of a journal that isn't whole: only whether it is sound is known.
-    fn only_sound(self, number: u64) -> Option<Figure>
+    fn only_sound(self, number: u64) -> Option<Piece<'static>>
         ensures { result ≡ only_sound self number }
     {
         match self {
-            BufferMetric::Sound => Some(Figure::Number(number)),
+            BufferMetric::Sound => Some(Piece::Number(number)),
             BufferMetric::Staged
             | BufferMetric::Queued
             | BufferMetric::Entries
@@ -152,17 +147,17 @@ impl BufferMetric {
 }
 
 /// The seconds of an instant; none where there is none.
-pub(crate) fn seconds_at(instant: Option<Instant>) -> Option<Figure>
+pub(crate) fn seconds_at(instant: Option<Instant>) -> Option<Piece<'static>>
     ensures { result ≡ seconds_at instant }
 {
     match instant {
-        Some(instant) => Some(Figure::Seconds(instant.nanos)),
+        Some(instant) => Some(Piece::Seconds(instant.nanos)),
         None => None,
     }
 }
 
 // What is measured of a sink.
-#[derive(Clone, Copy, PartialEq, Eq)]
+#[derive(Clone, Copy)]
 enum SinkMetric {
     Files,
     Events,
@@ -172,6 +167,17 @@ enum SinkMetric {
     Unread,
     Newest,
 }
+
+// All of them, in the order of the samples.
+const SINK_METRICS: [SinkMetric; 7] = [
+    SinkMetric::Files,
+    SinkMetric::Events,
+    SinkMetric::Bytes,
+    SinkMetric::Torn,
+    SinkMetric::Damaged,
+    SinkMetric::Unread,
+    SinkMetric::Newest,
+];
 
 impl SinkMetric {
     // Its name.
@@ -207,16 +213,16 @@ impl SinkMetric {
     }
 
     // What its sample says of these counts; none where there is nothing to say.
-    fn figure(self, counts: SinkCounts) -> Option<Figure>
+    fn figure(self, counts: SinkCounts) -> Option<Piece<'static>>
         ensures { result ≡ sink_figure self counts }
     {
         match self {
-            SinkMetric::Files => Some(Figure::Number(counts.files)),
-            SinkMetric::Events => Some(Figure::Number(counts.events)),
-            SinkMetric::Bytes => Some(Figure::Number(counts.bytes)),
-            SinkMetric::Torn => Some(Figure::Number(counts.torn)),
-            SinkMetric::Damaged => Some(Figure::Number(counts.damaged)),
-            SinkMetric::Unread => Some(Figure::Number(counts.unread)),
+            SinkMetric::Files => Some(Piece::Number(counts.files)),
+            SinkMetric::Events => Some(Piece::Number(counts.events)),
+            SinkMetric::Bytes => Some(Piece::Number(counts.bytes)),
+            SinkMetric::Torn => Some(Piece::Number(counts.torn)),
+            SinkMetric::Damaged => Some(Piece::Number(counts.damaged)),
+            SinkMetric::Unread => Some(Piece::Number(counts.unread)),
             SinkMetric::Newest => seconds_at(counts.newest_event),
         }
     }
@@ -231,96 +237,42 @@ pub(crate) fn status_metrics<A: Allocator + Copy>(
     ensures { IfOk result (λ text. text.items ≡ status_metrics folder.now outputs.now) }
 {
     let mut text = Vec::new(alloc);
-    put_buffer_family(alloc, &mut text, BufferMetric::Sound, folder.buffers())?;
-    put_buffers(alloc, &mut text, folder.buffers())?;
-    put_sinks(alloc, &mut text, folder.sinks())?;
+    put_buffers(alloc, &mut text, &BUFFER_METRICS, folder.buffers())?;
+    put_sinks(alloc, &mut text, &SINK_METRICS, folder.sinks())?;
     put_outputs(alloc, &mut text, outputs)?;
     Ok(text)
 }
 
-// Adds what is said of these buffers, but for whether they are sound.
+// Adds these metrics of these buffers.
 fn put_buffers<A: Allocator + Copy>(
     alloc: A,
     text: &mut Vec<u8, A>,
+    metrics: &[BufferMetric],
     buffers: &[Buffer<'_>],
 ) -> Result<(), AllocError>
-    ensures { OnOk result (text.new.items ≡ with_buffers text.old.items buffers.now) }
+    ensures { OnOk result (text.new.items
+        ≡ text.old.items ++ flat_map (λ metric. buffer_family metric buffers.now) metrics.now) }
 {
-    put_buffer_counts(alloc, text, buffers)?;
-    put_buffer_family(alloc, text, BufferMetric::Oldest, buffers)
+    for metric in metrics {
+        put_buffer_family(alloc, text, *metric, buffers)?;
+    }
+    Ok(())
 }
 
-// Adds what is counted of these buffers.
-fn put_buffer_counts<A: Allocator + Copy>(
-    alloc: A,
-    text: &mut Vec<u8, A>,
-    buffers: &[Buffer<'_>],
-) -> Result<(), AllocError>
-    ensures { OnOk result (text.new.items ≡ with_buffer_counts text.old.items buffers.now) }
-{
-    put_chunks(alloc, text, buffers)?;
-    put_buffer_family(alloc, text, BufferMetric::Torn, buffers)?;
-    put_buffer_family(alloc, text, BufferMetric::Next, buffers)
-}
-
-// Adds what is counted of their chunks.
-fn put_chunks<A: Allocator + Copy>(
-    alloc: A,
-    text: &mut Vec<u8, A>,
-    buffers: &[Buffer<'_>],
-) -> Result<(), AllocError>
-    ensures { OnOk result (text.new.items ≡ text.old.items
-        ++ buffer_family BufferMetric.Staged buffers.now
-        ++ buffer_family BufferMetric.Queued buffers.now
-        ++ buffer_family BufferMetric.Entries buffers.now
-        ++ buffer_family BufferMetric.Bytes buffers.now) }
-{
-    put_buffer_family(alloc, text, BufferMetric::Staged, buffers)?;
-    put_buffer_family(alloc, text, BufferMetric::Queued, buffers)?;
-    put_buffer_family(alloc, text, BufferMetric::Entries, buffers)?;
-    put_buffer_family(alloc, text, BufferMetric::Bytes, buffers)
-}
-
-// Adds what is said of these sinks.
+// Adds these metrics of these sinks.
 fn put_sinks<A: Allocator + Copy>(
     alloc: A,
     text: &mut Vec<u8, A>,
+    metrics: &[SinkMetric],
     sinks: &[Sink<'_>],
 ) -> Result<(), AllocError>
-    ensures { OnOk result (text.new.items ≡ with_sinks text.old.items sinks.now) }
+    ensures { OnOk result (text.new.items
+        ≡ text.old.items ++ flat_map (λ metric. sink_family metric sinks.now) metrics.now) }
 {
-    put_sink_counts(alloc, text, sinks)?;
-    put_sink_family(alloc, text, SinkMetric::Newest, sinks)
-}
-
-// Adds what is counted of these sinks.
-fn put_sink_counts<A: Allocator + Copy>(
-    alloc: A,
-    text: &mut Vec<u8, A>,
-    sinks: &[Sink<'_>],
-) -> Result<(), AllocError>
-    ensures { OnOk result (text.new.items ≡ with_sink_counts text.old.items sinks.now) }
-{
-    put_events(alloc, text, sinks)?;
-    put_sink_family(alloc, text, SinkMetric::Torn, sinks)?;
-    put_sink_family(alloc, text, SinkMetric::Damaged, sinks)?;
-    put_sink_family(alloc, text, SinkMetric::Unread, sinks)
-}
-
-// Adds what is counted of their files, and of the events in these.
-fn put_events<A: Allocator + Copy>(
-    alloc: A,
-    text: &mut Vec<u8, A>,
-    sinks: &[Sink<'_>],
-) -> Result<(), AllocError>
-    ensures { OnOk result (text.new.items ≡ text.old.items
-        ++ sink_family SinkMetric.Files sinks.now
-        ++ sink_family SinkMetric.Events sinks.now
-        ++ sink_family SinkMetric.Bytes sinks.now) }
-{
-    put_sink_family(alloc, text, SinkMetric::Files, sinks)?;
-    put_sink_family(alloc, text, SinkMetric::Events, sinks)?;
-    put_sink_family(alloc, text, SinkMetric::Bytes, sinks)
+    for metric in metrics {
+        put_sink_family(alloc, text, *metric, sinks)?;
+    }
+    Ok(())
 }
 
 // Adds a metric of these buffers.
@@ -332,7 +284,7 @@ fn put_buffer_family<A: Allocator + Copy>(
 ) -> Result<(), AllocError>
     ensures { OnOk result (text.new.items ≡ text.old.items ++ buffer_family metric buffers.now) }
 {
-    put_head(text, metric.name(), metric.help(), "gauge")?;
+    put_head(alloc, text, metric.name(), metric.help(), "gauge")?;
     put_buffer_samples(alloc, text, metric, buffers)
 }
 
@@ -362,14 +314,16 @@ fn put_buffer_sample<A: Allocator + Copy>(
     ensures { OnOk result (text.new.items ≡ text.old.items ++ buffer_sample metric buffer.now) }
 {
     match metric.figure(buffer.found()) {
-        Some(figure) => put_sample(
-            alloc,
-            text,
-            metric.name(),
-            b"{buffer=\"",
-            buffer.path(),
-            figure,
-        ),
+        Some(says) => {
+            put_sample(
+                alloc,
+                text,
+                metric.name(),
+                b"{buffer=\"",
+                buffer.path(),
+                says,
+            )
+        }
         None => Ok(()),
     }
 }
@@ -383,7 +337,7 @@ fn put_sink_family<A: Allocator + Copy>(
 ) -> Result<(), AllocError>
     ensures { OnOk result (text.new.items ≡ text.old.items ++ sink_family metric sinks.now) }
 {
-    put_head(text, metric.name(), metric.help(), "gauge")?;
+    put_head(alloc, text, metric.name(), metric.help(), "gauge")?;
     put_sink_samples(alloc, text, metric, sinks)
 }
 
@@ -413,112 +367,63 @@ fn put_sink_sample<A: Allocator + Copy>(
     ensures { OnOk result (text.new.items ≡ text.old.items ++ sink_sample metric sink.now) }
 {
     match metric.figure(sink.counts()) {
-        Some(figure) => put_sample(alloc, text, metric.name(), b"{sink=\"", sink.path(), figure),
+        Some(says) => put_sample(alloc, text, metric.name(), b"{sink=\"", sink.path(), says),
         None => Ok(()),
     }
 }
 
 /// Adds the two lines in front of the samples of a metric: what it is, and its type.
-pub(crate) fn put_head<A: Allocator>(
+pub(crate) fn put_head<'a, A: Allocator + Copy>(
+    alloc: A,
     text: &mut Vec<u8, A>,
-    name: &str,
-    help: &str,
-    kind: &str,
+    name: &'a str,
+    help: &'a str,
+    kind: &'a str,
 ) -> Result<(), AllocError>
     ensures { OnOk result (text.new.items
         ≡ text.old.items ++ head_lines name.now help.now kind.now) }
 {
-    put_comment(text, b"# HELP ", name, help)?;
-    put_comment(text, b"# TYPE ", name, kind)
+    let name = name.as_bytes();
+    put_pieces(
+        alloc,
+        text,
+        &[
+            Piece::Text(b"# HELP "),
+            Piece::Text(name),
+            Piece::Text(b" "),
+            Piece::Text(help.as_bytes()),
+            Piece::Text(b"\n# TYPE "),
+            Piece::Text(name),
+            Piece::Text(b" "),
+            Piece::Text(kind.as_bytes()),
+            Piece::Text(b"\n"),
+        ],
+    )
 }
 
-// Adds a line that says something of a metric.
-fn put_comment<A: Allocator>(
-    text: &mut Vec<u8, A>,
-    word: &[u8],
-    name: &str,
-    said: &str,
-) -> Result<(), AllocError>
-    ensures { OnOk result (text.new.items
-        ≡ text.old.items ++ comment_line word.now name.now said.now) }
-{
-    text.extend_from_slice(word)?;
-    text.extend_from_slice(name.as_bytes())?;
-    text.extend_from_slice(b" ")?;
-    text.extend_from_slice(said.as_bytes())?;
-    text.extend_from_slice(b"\n")
-}
-
-/// Adds the line of a sample: the metric, a label, from its brace to the quote in front of its
-/// value, the value, and the figure.
-pub(crate) fn put_sample<A: Allocator + Copy>(
+// Adds the line of a sample: the metric, a label, from its brace to the quote in front of its
+// value, the value, and what the sample says.
+fn put_sample<'a, A: Allocator + Copy>(
     alloc: A,
     text: &mut Vec<u8, A>,
-    metric: &str,
-    label: &[u8],
-    value: &str,
-    figure: Figure,
+    metric: &'a str,
+    label: &'a [u8],
+    value: &'a str,
+    says: Piece<'a>,
 ) -> Result<(), AllocError>
     ensures { OnOk result (text.new.items
-        ≡ text.old.items ++ sample_line metric.now label.now value.now figure) }
+        ≡ text.old.items ++ sample_line metric.now label.now value.now says.entry) }
 {
-    put_labelled(text, metric, label, value)?;
-    put_figure(alloc, text, figure)?;
-    text.extend_from_slice(b"\n")
-}
-
-// Adds what stands in front of the figure.
-fn put_labelled<A: Allocator>(
-    text: &mut Vec<u8, A>,
-    metric: &str,
-    label: &[u8],
-    value: &str,
-) -> Result<(), AllocError>
-    ensures { OnOk result (text.new.items
-        ≡ text.old.items ++ (metric.now ++ label.now ++ flat_map escaped value.now
-        ++ (34 ∷ 125 ∷ 32 ∷ []))) }
-{
-    text.extend_from_slice(metric.as_bytes())?;
-    text.extend_from_slice(label)?;
-    put_escaped(text, value.as_bytes())?;
-    text.extend_from_slice(b"\"} ")
-}
-
-// Adds a figure.
-fn put_figure<A: Allocator + Copy>(
-    alloc: A,
-    line: &mut Vec<u8, A>,
-    figure: Figure,
-) -> Result<(), AllocError>
-    ensures { OnOk result (line.new.items ≡ line.old.items ++ figure_text figure) }
-{
-    match figure {
-        Figure::Number(number) => put_field(alloc, line, b"", number),
-        Figure::Seconds(nanos) => put_seconds(alloc, line, nanos),
-    }
-}
-
-// Adds the value of a label: with `\` in front of a quote and of `\`, and `\n` in place of a line
-// feed.
-fn put_escaped<A: Allocator>(line: &mut Vec<u8, A>, value: &[u8]) -> Result<(), AllocError>
-    ensures { OnOk result (line.new.items ≡ line.old.items ++ flat_map escaped value.now) }
-{
-    for byte in value {
-        put_byte(line, *byte)?;
-    }
-    Ok(())
-}
-
-// Adds a byte of it.
-fn put_byte<A: Allocator>(line: &mut Vec<u8, A>, byte: u8) -> Result<(), AllocError>
-    ensures { OnOk result (line.new.items ≡ line.old.items ++ escaped byte) }
-{
-    if byte == b'"' || byte == b'\\' {
-        return line.extend_from_slice(&[b'\\', byte]);
-    }
-    if byte == b'\n' {
-        line.extend_from_slice(b"\\n")
-    } else {
-        line.extend_from_slice(&[byte])
-    }
+    put_pieces(
+        alloc,
+        text,
+        &[
+            Piece::Text(metric.as_bytes()),
+            Piece::Text(label),
+            Piece::Value(value.as_bytes()),
+            Piece::Text(b"\"} "),
+            says,
+            Piece::Text(b"\n"),
+        ],
+    )
 }

@@ -1,16 +1,13 @@
 //! What a folder holds, as a JSON object (RFC 8259).
 
-ghost use Rattle.std.specs.Prelude.{◌≡◌, codes, fold, IfOk, OnOk};
+ghost use Rattle.std.specs.Prelude.{◌≡◌, fold, IfOk, OnOk};
 ghost use Rattle.folder_counts.specs.Object.{
   state_word,
   with_above,
   with_buffer,
   with_buffers,
-  with_chunks,
-  with_counts,
-  with_found,
-  with_name,
-  with_newest,
+  with_list,
+  with_member,
   with_number,
   with_numbers,
   with_over,
@@ -22,7 +19,7 @@ ghost use Rattle.folder_counts.specs.Object.{
   with_word,
   Becomes,
 };
-ghost use Rattle.folder_counts.specs.Texts.{status_object, with_status};
+ghost use Rattle.folder_counts.specs.Texts.{status_object, with_folder, with_status};
 
 use crate::buffers::{Buffer, Found};
 use crate::counts::{ChunkCounts, SinkCounts};
@@ -65,12 +62,67 @@ fn put_status<A: Allocator + Copy>(
         (with_status writer.old.tokens limits folder.now outputs.now)) }
 {
     writer.begin_object()?;
-    put_buffers(alloc, writer, folder.buffers())?;
-    put_sinks(alloc, writer, folder.sinks())?;
-    put_outputs(alloc, writer, folder.buffers(), outputs)?;
-    put_total(writer, folder.buffers())?;
-    put_overs(writer, limits, folder.buffers())?;
+    put_folder(alloc, writer, limits, folder, outputs)?;
     writer.end_object()
+}
+
+// Writes its members.
+fn put_folder<A: Allocator + Copy>(
+    alloc: A,
+    writer: &mut Writer<A>,
+    limits: Limits,
+    folder: &FolderCounts<'_, A>,
+    outputs: &[Output<'_>],
+) -> Result<(), AllocError>
+    ensures { OnOk result (Becomes writer.old writer.new
+        (with_folder writer.old.tokens limits folder.now outputs.now)) }
+{
+    let buffers = folder.buffers();
+    put_buffers(alloc, writer, buffers)?;
+    put_sinks(alloc, writer, folder.sinks())?;
+    put_outputs(alloc, writer, buffers, outputs)?;
+    put_total(writer, buffers)?;
+    put_overs(writer, limits, buffers)
+}
+
+/// What objects are written of.
+#[derive(Clone, Copy)]
+pub(crate) enum Member<'a> {
+    /// An object begins.
+    Begin,
+    /// A member of this name, whose value is this number.
+    Number(&'a str, u64),
+    /// A member of this name, whose value is this text.
+    Word(&'a str, &'a str),
+    /// The object ends.
+    End,
+}
+
+/// Writes these, one behind another.
+pub(crate) fn put_all<A: Allocator>(
+    writer: &mut Writer<A>,
+    members: &[Member<'_>],
+) -> Result<(), AllocError>
+    ensures { OnOk result (Becomes writer.old writer.new
+        (fold with_member writer.old.tokens members.now)) }
+{
+    for member in members {
+        put_member(writer, *member)?;
+    }
+    Ok(())
+}
+
+// Writes one of them.
+fn put_member<A: Allocator>(writer: &mut Writer<A>, member: Member<'_>) -> Result<(), AllocError>
+    ensures { OnOk result (Becomes writer.old writer.new
+        (with_member writer.old.tokens member.entry)) }
+{
+    match member {
+        Member::Begin => writer.begin_object(),
+        Member::Number(key, number) => put_number(writer, key, number),
+        Member::Word(key, word) => put_word(writer, key, word),
+        Member::End => writer.end_object(),
+    }
 }
 
 /// Writes a member whose value is this number.
@@ -95,12 +147,13 @@ fn put_word<A: Allocator>(writer: &mut Writer<A>, key: &str, word: &str) -> Resu
     writer.string(word)
 }
 
-// Begins an object that has this name.
-fn begin_named<A: Allocator>(writer: &mut Writer<A>, name: &str) -> Result<(), AllocError>
-    ensures { OnOk result (Becomes writer.old writer.new (with_name writer.old.tokens name.now)) }
+/// Begins the member with a list.
+pub(crate) fn begin_list<A: Allocator>(writer: &mut Writer<A>, key: &str) -> Result<(), AllocError>
+    ensures { OnOk result (Becomes writer.old writer.new
+        (with_list writer.old.tokens key.now)) }
 {
-    writer.begin_object()?;
-    put_word(writer, "name", name)
+    writer.key(key)?;
+    writer.begin_array()
 }
 
 // Writes the member with all buffers.
@@ -112,8 +165,7 @@ fn put_buffers<A: Allocator + Copy>(
     ensures { OnOk result (Becomes writer.old writer.new
         (with_buffers writer.old.tokens buffers.now)) }
 {
-    writer.key("buffers")?;
-    writer.begin_array()?;
+    begin_list(writer, "buffers")?;
     put_each_buffer(alloc, writer, buffers)?;
     writer.end_array()
 }
@@ -142,20 +194,27 @@ fn put_buffer<A: Allocator + Copy>(
     ensures { OnOk result (Becomes writer.old writer.new
         (with_buffer writer.old.tokens buffer.now)) }
 {
-    begin_named(writer, buffer.path())?;
-    put_found(alloc, writer, buffer.found())?;
+    let found = buffer.found();
+    put_all(
+        writer,
+        &[
+            Member::Begin,
+            Member::Word("name", buffer.path()),
+            Member::Word("state", state_word(found)),
+        ],
+    )?;
+    put_numbers(alloc, writer, found)?;
     writer.end_object()
 }
 
-// Writes the members that say what is found in a journal.
-fn put_found<A: Allocator + Copy>(
+// Writes the members of the numbers that are found in a journal; nothing where it isn't whole.
+fn put_numbers<A: Allocator + Copy>(
     alloc: A,
     writer: &mut Writer<A>,
     found: Found,
 ) -> Result<(), AllocError>
-    ensures { OnOk result (Becomes writer.old writer.new (with_found writer.old.tokens found)) }
+    ensures { OnOk result (Becomes writer.old writer.new (with_numbers writer.old.tokens found)) }
 {
-    put_word(writer, "state", state_word(found))?;
     match found {
         Found::Chunks {
             chunks,
@@ -179,9 +238,17 @@ fn put_whole<A: Allocator + Copy>(
     ensures { OnOk result (Becomes writer.old writer.new
         (with_numbers writer.old.tokens (Found.Chunks chunks torn next oldest))) }
 {
-    put_chunks(writer, chunks)?;
-    put_number(writer, "torn", torn)?;
-    put_number(writer, "next", next)?;
+    put_all(
+        writer,
+        &[
+            Member::Number("staged", chunks.staged),
+            Member::Number("queued", chunks.queued),
+            Member::Number("entries", chunks.entries),
+            Member::Number("bytes", chunks.bytes),
+            Member::Number("torn", torn),
+            Member::Number("next", next),
+        ],
+    )?;
     put_time(alloc, writer, "oldest_event", oldest)
 }
 
@@ -216,16 +283,6 @@ fn state_word(found: Found) -> &'static str
     }
 }
 
-// Writes the members that say what chunks count to.
-fn put_chunks<A: Allocator>(writer: &mut Writer<A>, chunks: ChunkCounts) -> Result<(), AllocError>
-    ensures { OnOk result (Becomes writer.old writer.new (with_chunks writer.old.tokens chunks)) }
-{
-    put_number(writer, "staged", chunks.staged)?;
-    put_number(writer, "queued", chunks.queued)?;
-    put_number(writer, "entries", chunks.entries)?;
-    put_number(writer, "bytes", chunks.bytes)
-}
-
 // Writes the member with all sinks.
 fn put_sinks<A: Allocator + Copy>(
     alloc: A,
@@ -234,8 +291,7 @@ fn put_sinks<A: Allocator + Copy>(
 ) -> Result<(), AllocError>
     ensures { OnOk result (Becomes writer.old writer.new (with_sinks writer.old.tokens sinks.now)) }
 {
-    writer.key("sinks")?;
-    writer.begin_array()?;
+    begin_list(writer, "sinks")?;
     put_each_sink(alloc, writer, sinks)?;
     writer.end_array()
 }
@@ -263,46 +319,23 @@ fn put_sink<A: Allocator + Copy>(
 ) -> Result<(), AllocError>
     ensures { OnOk result (Becomes writer.old writer.new (with_sink writer.old.tokens sink.now)) }
 {
-    begin_named(writer, sink.path())?;
-    put_counts(writer, sink.counts())?;
-    put_newest(alloc, writer, sink)?;
-    writer.end_object()
-}
-
-// Writes the members of a sink's newest file, and of its newest event.
-fn put_newest<A: Allocator + Copy>(
-    alloc: A,
-    writer: &mut Writer<A>,
-    sink: &Sink<'_>,
-) -> Result<(), AllocError>
-    ensures { OnOk result (Becomes writer.old writer.new
-        (with_newest writer.old.tokens sink.now)) }
-{
     let counts = sink.counts();
-    put_word(writer, "newest", sink.newest())?;
-    put_time(alloc, writer, "newest_event", counts.newest_event)
-}
-
-// Writes the members that say what files of a sink count to.
-fn put_counts<A: Allocator>(writer: &mut Writer<A>, counts: SinkCounts) -> Result<(), AllocError>
-    ensures { OnOk result (Becomes writer.old writer.new (with_counts writer.old.tokens counts)) }
-{
-    put_events(writer, counts)?;
-    put_number(writer, "torn", counts.torn)?;
-    put_number(writer, "damaged", counts.damaged)?;
-    put_number(writer, "unread", counts.unread)
-}
-
-// Writes those of the files, and of the events in them.
-fn put_events<A: Allocator>(writer: &mut Writer<A>, counts: SinkCounts) -> Result<(), AllocError>
-    ensures { OnOk result (Becomes writer.old writer.new
-        (with_number (with_number (with_number writer.old.tokens
-        (codes "files") counts.files) (codes "events") counts.events)
-        (codes "bytes") counts.bytes)) }
-{
-    put_number(writer, "files", counts.files)?;
-    put_number(writer, "events", counts.events)?;
-    put_number(writer, "bytes", counts.bytes)
+    put_all(
+        writer,
+        &[
+            Member::Begin,
+            Member::Word("name", sink.path()),
+            Member::Number("files", counts.files),
+            Member::Number("events", counts.events),
+            Member::Number("bytes", counts.bytes),
+            Member::Number("torn", counts.torn),
+            Member::Number("damaged", counts.damaged),
+            Member::Number("unread", counts.unread),
+            Member::Word("newest", sink.newest()),
+        ],
+    )?;
+    put_time(alloc, writer, "newest_event", counts.newest_event)?;
+    writer.end_object()
 }
 
 // Writes the member with what all buffers hold together.
@@ -310,10 +343,19 @@ fn put_total<A: Allocator>(writer: &mut Writer<A>, buffers: &[Buffer<'_>]) -> Re
     ensures { OnOk result (Becomes writer.old writer.new
         (with_total writer.old.tokens buffers.now)) }
 {
+    let sum = total_of(buffers)?;
     writer.key("total")?;
-    writer.begin_object()?;
-    put_chunks(writer, total_of(buffers)?)?;
-    writer.end_object()
+    put_all(
+        writer,
+        &[
+            Member::Begin,
+            Member::Number("staged", sum.staged),
+            Member::Number("queued", sum.queued),
+            Member::Number("entries", sum.entries),
+            Member::Number("bytes", sum.bytes),
+            Member::End,
+        ],
+    )
 }
 
 // Writes the member with the limits that buffers are above.
@@ -325,8 +367,7 @@ fn put_overs<A: Allocator>(
     ensures { OnOk result (Becomes writer.old writer.new
         (with_overs writer.old.tokens limits buffers.now)) }
 {
-    writer.key("over")?;
-    writer.begin_array()?;
+    begin_list(writer, "over")?;
     put_each_over(writer, limits, buffers)?;
     writer.end_array()
 }
@@ -355,29 +396,20 @@ fn put_over<A: Allocator>(
     ensures { OnOk result (Becomes writer.old writer.new
         (with_over limits writer.old.tokens buffer.now)) }
 {
+    let path = buffer.path();
     let chunks = buffer.chunks();
-    put_above(writer, buffer.path(), "bytes", limits.bytes, chunks.bytes)?;
-    put_above(
-        writer,
-        buffer.path(),
-        "chunks",
-        limits.chunks,
-        chunks.number()?,
-    )?;
-    put_above(
-        writer,
-        buffer.path(),
-        "age",
-        limits.most_age(),
-        limits.age(buffer.oldest()),
-    )
+    let number = chunks.number()?;
+    let age = limits.age(buffer.oldest());
+    put_above(writer, path, "bytes", limits.bytes, chunks.bytes)?;
+    put_above(writer, path, "chunks", limits.chunks, number)?;
+    put_above(writer, path, "age", limits.most_age(), age)
 }
 
 // Writes the object of a number that is above its limit; nothing of another.
-fn put_above<A: Allocator>(
+fn put_above<'a, A: Allocator>(
     writer: &mut Writer<A>,
-    name: &str,
-    key: &str,
+    name: &'a str,
+    key: &'a str,
     most: Option<u64>,
     number: u64,
 ) -> Result<(), AllocError>
@@ -387,7 +419,13 @@ fn put_above<A: Allocator>(
     if !is_above(most, number) {
         return Ok(());
     }
-    begin_named(writer, name)?;
-    put_number(writer, key, number)?;
-    writer.end_object()
+    put_all(
+        writer,
+        &[
+            Member::Begin,
+            Member::Word("name", name),
+            Member::Number(key, number),
+            Member::End,
+        ],
+    )
 }

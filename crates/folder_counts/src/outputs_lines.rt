@@ -1,6 +1,6 @@
 //! The lines of outputs.
 
-ghost use Rattle.std.specs.Prelude.{◌≡◌, ◌++◌, codes, IfOk, OnOk};
+ghost use Rattle.std.specs.Prelude.{◌≡◌, ◌++◌, codes, OnOk};
 ghost use Rattle.std.specs.List.{flat_map};
 ghost use Rattle.folder_counts.specs.Outputs.{
   number_field,
@@ -11,8 +11,9 @@ ghost use Rattle.folder_counts.specs.Outputs.{
 };
 
 use crate::buffers::Buffer;
-use crate::lines::{put_field, put_time};
+use crate::lines::put_time;
 use crate::outputs::{Output, used_of};
+use crate::pieces::{Piece, put_pieces};
 use output_state::OutputCounts;
 use std::alloc::{AllocError, Allocator};
 
@@ -28,39 +29,49 @@ pub(crate) fn put_outputs<A: Allocator + Copy>(
         ≡ lines.old.items ++ flat_map (output_line buffers.now) outputs.now) }
 {
     for output in outputs {
-        let line = output_line(alloc, buffers, output)?;
-        lines.extend_from_slice(&line)?;
+        put_output(alloc, lines, buffers, output)?;
     }
     Ok(())
 }
 
-// The line of an output.
-fn output_line<A: Allocator + Copy>(
+// Adds the line of an output.
+fn put_output<A: Allocator + Copy>(
     alloc: A,
+    lines: &mut Vec<u8, A>,
     buffers: &[Buffer<'_>],
     output: &Output<'_>,
-) -> Result<Vec<u8, A>, AllocError>
-    ensures { IfOk result (λ line. line.items ≡ output_line buffers.now output.now) }
+) -> Result<(), AllocError>
+    ensures { OnOk result (lines.new.items
+        ≡ lines.old.items ++ output_line buffers.now output.now) }
 {
-    let mut line = place_field(alloc, output)?;
-    put_used(alloc, &mut line, buffers, output)?;
-    put_deliveries(alloc, &mut line, output.counts())?;
-    put_time(alloc, &mut line, b" last delivery ", output.last())?;
-    line.extend_from_slice(b"\n")?;
-    Ok(line)
+    put_place(alloc, lines, output)?;
+    put_used(alloc, lines, buffers, output)?;
+    put_deliveries(alloc, lines, output.counts())?;
+    put_time(alloc, lines, b" last delivery ", output.last())?;
+    lines.extend_from_slice(b"\n")
 }
 
-// The beginning of the line: where the output stands, its buffer, and the limit of that.
-fn place_field<A: Allocator + Copy>(alloc: A, output: &Output<'_>) -> Result<Vec<u8, A>, AllocError>
-    ensures { IfOk result (λ line. line.items ≡ place_field output.now.state) }
+// Adds the beginning of the line: where the output stands, its buffer, and the limit of that.
+fn put_place<A: Allocator + Copy>(
+    alloc: A,
+    line: &mut Vec<u8, A>,
+    output: &Output<'_>,
+) -> Result<(), AllocError>
+    ensures { OnOk result (line.new.items ≡ line.old.items ++ place_field output.now.state) }
 {
     let counts = output.counts();
-    let mut line = Vec::new(alloc);
-    put_field(alloc, &mut line, b"output ", output.line())?;
-    line.extend_from_slice(b" buffer ")?;
-    line.extend_from_slice(output.buffer())?;
-    put_field(alloc, &mut line, b" limit ", counts.limit)?;
-    Ok(line)
+    put_pieces(
+        alloc,
+        line,
+        &[
+            Piece::Text(b"output "),
+            Piece::Number(output.line()),
+            Piece::Text(b" buffer "),
+            Piece::Text(output.buffer()),
+            Piece::Text(b" limit "),
+            Piece::Number(counts.limit),
+        ],
+    )
 }
 
 // Adds how many percent of that limit the buffer holds; nothing where that isn't known.
@@ -74,7 +85,13 @@ fn put_used<A: Allocator + Copy>(
         ≡ line.old.items ++ number_field (codes " used ") (used_of buffers.now output.now.state)) }
 {
     match used_of(buffers, output)? {
-        Some(percent) => put_field(alloc, line, b" used ", percent),
+        Some(percent) => {
+            put_pieces(
+                alloc,
+                line,
+                &[Piece::Text(b" used "), Piece::Number(percent)],
+            )
+        }
         None => Ok(()),
     }
 }
@@ -87,7 +104,16 @@ fn put_deliveries<A: Allocator + Copy>(
 ) -> Result<(), AllocError>
     ensures { OnOk result (line.new.items ≡ with_deliveries line.old.items counts) }
 {
-    put_field(alloc, line, b" failing ", counts.failing)?;
-    put_field(alloc, line, b" failures ", counts.failures)?;
-    put_field(alloc, line, b" delivered ", counts.delivered)
+    put_pieces(
+        alloc,
+        line,
+        &[
+            Piece::Text(b" failing "),
+            Piece::Number(counts.failing),
+            Piece::Text(b" failures "),
+            Piece::Number(counts.failures),
+            Piece::Text(b" delivered "),
+            Piece::Number(counts.delivered),
+        ],
+    )
 }

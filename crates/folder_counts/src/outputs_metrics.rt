@@ -1,26 +1,24 @@
 //! Samples of outputs in the text format of Prometheus, version 0.0.4.
 
-ghost use Rattle.std.specs.Prelude.{◌≡◌, ◌++◌, IfOk, OnOk};
+ghost use Rattle.std.specs.Prelude.{◌≡◌, ◌++◌, OnOk};
 ghost use Rattle.std.specs.List.{flat_map};
 ghost use Rattle.folder_counts.specs.Outputs.{
   output_family,
   output_figure,
   output_help,
-  output_labels,
   output_name,
   output_sample,
   output_type,
-  with_families,
   with_samples,
 };
 
-use crate::lines::put_field;
-use crate::metrics::{Figure, put_head, put_sample, seconds_at};
+use crate::metrics::{put_head, seconds_at};
 use crate::outputs::Output;
+use crate::pieces::{Piece, put_pieces};
 use std::alloc::{AllocError, Allocator};
 
 // What is measured of an output.
-#[derive(Clone, Copy, PartialEq, Eq)]
+#[derive(Clone, Copy)]
 enum OutputMetric {
     Limit,
     Failing,
@@ -28,6 +26,15 @@ enum OutputMetric {
     Delivered,
     Last,
 }
+
+// All of them, in the order of the samples.
+const OUTPUT_METRICS: [OutputMetric; 5] = [
+    OutputMetric::Limit,
+    OutputMetric::Failing,
+    OutputMetric::Failures,
+    OutputMetric::Delivered,
+    OutputMetric::Last,
+];
 
 impl OutputMetric {
     // Its name.
@@ -70,15 +77,15 @@ impl OutputMetric {
     }
 
     // What its sample says of an output; none where there is nothing to say.
-    fn figure(self, output: &Output<'_>) -> Option<Figure>
+    fn figure(self, output: &Output<'_>) -> Option<Piece<'static>>
         ensures { result ≡ output_figure self output.now }
     {
         let counts = output.counts();
         match self {
-            OutputMetric::Limit => Some(Figure::Number(counts.limit)),
-            OutputMetric::Failing => Some(Figure::Number(counts.failing)),
-            OutputMetric::Failures => Some(Figure::Number(counts.failures)),
-            OutputMetric::Delivered => Some(Figure::Number(counts.delivered)),
+            OutputMetric::Limit => Some(Piece::Number(counts.limit)),
+            OutputMetric::Failing => Some(Piece::Number(counts.failing)),
+            OutputMetric::Failures => Some(Piece::Number(counts.failures)),
+            OutputMetric::Delivered => Some(Piece::Number(counts.delivered)),
             OutputMetric::Last => seconds_at(output.last()),
         }
     }
@@ -95,23 +102,23 @@ pub(crate) fn put_outputs<A: Allocator + Copy>(
     if outputs.is_empty() {
         return Ok(());
     }
-    put_families(alloc, text, outputs)
+    put_families(alloc, text, &OUTPUT_METRICS, outputs)
 }
 
-// Adds the metrics of these outputs.
-#[tactic(auto, unfolding(crate::specs::Outputs::with_families))]
+// Adds these metrics of these outputs.
 fn put_families<A: Allocator + Copy>(
     alloc: A,
     text: &mut Vec<u8, A>,
+    metrics: &[OutputMetric],
     outputs: &[Output<'_>],
 ) -> Result<(), AllocError>
-    ensures { OnOk result (text.new.items ≡ with_families text.old.items outputs.now) }
+    ensures { OnOk result (text.new.items
+        ≡ text.old.items ++ flat_map (λ metric. output_family metric outputs.now) metrics.now) }
 {
-    put_family(alloc, text, OutputMetric::Limit, outputs)?;
-    put_family(alloc, text, OutputMetric::Failing, outputs)?;
-    put_family(alloc, text, OutputMetric::Failures, outputs)?;
-    put_family(alloc, text, OutputMetric::Delivered, outputs)?;
-    put_family(alloc, text, OutputMetric::Last, outputs)
+    for metric in metrics {
+        put_family(alloc, text, *metric, outputs)?;
+    }
+    Ok(())
 }
 
 // Adds a metric of these outputs.
@@ -123,7 +130,7 @@ fn put_family<A: Allocator + Copy>(
 ) -> Result<(), AllocError>
     ensures { OnOk result (text.new.items ≡ text.old.items ++ output_family metric outputs.now) }
 {
-    put_head(text, metric.name(), metric.help(), metric.kind())?;
+    put_head(alloc, text, metric.name(), metric.help(), metric.kind())?;
     put_samples(alloc, text, metric, outputs)
 }
 
@@ -152,20 +159,22 @@ fn put_output_sample<A: Allocator + Copy>(
 ) -> Result<(), AllocError>
     ensures { OnOk result (text.new.items ≡ text.old.items ++ output_sample metric output.now) }
 {
-    let Some(figure) = metric.figure(output) else {
+    let Some(says) = metric.figure(output) else {
         return Ok(());
     };
-    let labels = output_labels(alloc, output.line())?;
     let path = output.path().unwrap_or("");
-    put_sample(alloc, text, metric.name(), &labels, path, figure)
-}
-
-// The labels of an output, up to the quote in front of the value of the last one.
-fn output_labels<A: Allocator + Copy>(alloc: A, at: u64) -> Result<Vec<u8, A>, AllocError>
-    ensures { IfOk result (λ labels. labels.items ≡ output_labels at) }
-{
-    let mut labels = Vec::new(alloc);
-    put_field(alloc, &mut labels, b"{line=\"", at)?;
-    labels.extend_from_slice(b"\",buffer=\"")?;
-    Ok(labels)
+    put_pieces(
+        alloc,
+        text,
+        &[
+            Piece::Text(metric.name().as_bytes()),
+            Piece::Text(b"{line=\""),
+            Piece::Number(output.line()),
+            Piece::Text(b"\",buffer=\""),
+            Piece::Value(path.as_bytes()),
+            Piece::Text(b"\"} "),
+            says,
+            Piece::Text(b"\n"),
+        ],
+    )
 }

@@ -14,7 +14,7 @@ ghost use Rattle.folder_counts.specs.Outputs.{
 };
 
 use crate::buffers::Buffer;
-use crate::object::{put_number, put_time};
+use crate::object::{Member, begin_list, put_all, put_number, put_time};
 use crate::outputs::{Output, used_of};
 use json::Writer;
 use std::alloc::{AllocError, Allocator};
@@ -33,8 +33,7 @@ pub(crate) fn put_outputs<A: Allocator + Copy>(
     if outputs.is_empty() {
         return Ok(());
     }
-    writer.key("outputs")?;
-    writer.begin_array()?;
+    begin_list(writer, "outputs")?;
     put_each_output(alloc, writer, buffers, outputs)?;
     writer.end_array()
 }
@@ -134,8 +133,13 @@ fn put_tries<A: Allocator + Copy>(
         (with_tries writer.old.tokens output.now)) }
 {
     let counts = output.counts();
-    put_number(writer, "failing", counts.failing)?;
-    put_number(writer, "failures", counts.failures)?;
-    put_number(writer, "delivered", counts.delivered)?;
+    put_all(
+        writer,
+        &[
+            Member::Number("failing", counts.failing),
+            Member::Number("failures", counts.failures),
+            Member::Number("delivered", counts.delivered),
+        ],
+    )?;
     put_time(alloc, writer, "last_delivery", output.last())
 }

@@ -1,7 +1,6 @@
-use Rattle.std.proofs.Common.{◌++◌, ◌∙◌, ap}
-use Rattle.folder_counts.specs.Metrics.{buffer_family, with_buffers, with_sinks}
+use Rattle.std.proofs.Common.{◌∙◌, ap}
+use Rattle.folder_counts.specs.Metrics.{with_buffers, with_sinks}
 use Rattle.folder_counts.specs.Outputs.{with_samples}
-use Rattle.folder_counts.specs.declared.metrics.BufferMetric.TheVariants.{Sound}
 use Rattle.folder_counts.proofs.metrics.status_metrics.Goals as goal
 
 pub returns : goal.returns
@@ -10,7 +9,5 @@ returns g c =
     c.in_ok-put_outputs.ensures ∙ ap (λ text. with_samples text c.args.outputs.now)
     (c.in_ok-put_sinks.ensures ∙ ap (λ sinks. with_sinks c.put_buffers.new.text.items sinks) c.sinks.ensures
     ∙ ap (λ text. with_sinks text folder.sinks)
-    (c.in_ok-put_buffers.ensures ∙ ap (λ buffers. with_buffers c.put_buffer_family.new.text.items buffers) c.buffers-2.ensures
-    ∙ ap (λ text. with_buffers text folder.buffers)
-    (c.in_ok-put_buffer_family.ensures ∙ ap (λ buffers. c.new-text.result.items ++ buffer_family Sound buffers) c.buffers.ensures
-    ∙ ap (λ text. text ++ buffer_family Sound folder.buffers) c.new-text.ensures.items)))
+    (c.in_ok-put_buffers.ensures ∙ ap (λ buffers. with_buffers c.new-text.result.items buffers) c.buffers.ensures
+    ∙ ap (λ text. with_buffers text folder.buffers) c.new-text.ensures.items))

@@ -1,7 +1,0 @@
-use Rattle.std.proofs.Common.{◌≡◌, ◌++◌, take}
-use Rattle.std.specs.List.{flat_map}
-use Rattle.folder_counts.specs.Metrics.{escaped}
-use Rattle.folder_counts.proofs.metrics.put_escaped.Given as goal
-
-abbrev pub invariant-loop-byte : goal.invariant-loop-byte
-invariant-loop-byte g l = l.line.items ≡ l.fn.line.items ++ flat_map escaped (take l.byte-index l.value)
