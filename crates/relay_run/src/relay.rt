@@ -98,7 +98,6 @@ where
 
     // Opens the relay and runs it, and prints what there is to print of it. What else is to be said
     // of it is said meanwhile.
-    #[tactic(auto, using(crate::proofs::StartingSteps::unopened))]
     fn run_read<W: Write>(&self, relay: Relay<Global>, number: u32, out: &mut W) -> Status
         ensures { PrintsRun self.now (setup_of number relay) (W.contents out.old)
             (W.contents out.new) result }
@@ -126,7 +125,6 @@ where
     }
 
     // Opens the relay and runs it, and prints what there is to print of it.
-    #[tactic(auto, using(crate::proofs::StartingSteps::unopened))]
     fn run_with<W: Write>(
         &self,
         relay: Relay<Global>,
