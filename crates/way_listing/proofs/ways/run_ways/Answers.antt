@@ -19,4 +19,4 @@ returns-in-Err g c =
     inr
     (inl
     (none_read (g.R.CountedRead.remaining c.args.conf.now) (out c.args.out.now) (out c.print_conf_stop.new.out) c.in-Err.stop c.print_conf_stop.result c.in-Err.ensures.stop
-      c.print_conf_stop.ensures))
+    c.print_conf_stop.ensures))
