@@ -10,7 +10,8 @@ use Rattle.program_text.specs.declared.reading.ReadFault.{ReadFault}
 use Rattle.program_text.specs.declared.reading.ReadFault.TheVariants as unread
 use Rattle.program_text.specs.declared.status.Status.{Status}
 use Rattle.program_text.specs.declared.status.Status.TheVariants.{Usage}
-use Rattle.program_text.specs.Plans.{IsPlanStop, SaysPlanStop, PrintsPlanStop, unread_line}
+use Rattle.program_text.specs.Lines.{unread_line}
+use Rattle.program_text.specs.Plans.{IsPlanStop, SaysPlanStop, PrintsPlanStop}
 use Rattle.plan_answers.specs.Networks.{IsAnswered, IsFaultLine, IsStopLine, PrintsCheck, PrintsReplay, AreReplayed, answer_line, answer_status, joined_status}
 use Rattle.plan_answers.specs.Networks.{says_answer, says_fault, says_stop, lists_steps, lists_no_steps, lists_fault, lists_stop, prints_lines, ends_at_answer}
 use Rattle.program_text.specs.Output.{TakesPart, IsPrinted}

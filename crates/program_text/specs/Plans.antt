@@ -10,11 +10,10 @@ use Rattle.plan_lines.specs.declared.error.PlanError.{PlanError}
 use Rattle.plan_lines.specs.declared.error.PlanError.TheVariants as refusal
 use Rattle.program_text.specs.declared.plan_text.PlanStop.{PlanStop}
 use Rattle.program_text.specs.declared.plan_text.PlanStop.TheVariants as stop
-use Rattle.program_text.specs.declared.reading.ReadFault.{ReadFault}
 use Rattle.program_text.specs.declared.reading.ReadFault.TheVariants as unread
 use Rattle.program_text.specs.declared.status.Status.{Status}
 use Rattle.program_text.specs.declared.status.Status.TheVariants.{Usage}
-use Rattle.program_text.specs.Lines.{line, memory_line, read_line}
+use Rattle.program_text.specs.Lines.{line, memory_line, unread_line}
 use Rattle.program_text.specs.Output.{IsPrinted}
 use Rattle.program_text.specs.Texts.{IsTextOf}
 
@@ -50,19 +49,15 @@ abbrev pub plan_fault_line : PlanError → List ℕ
 plan_fault_line fault = line (codes "fault " ++ error_text fault)
 
 -- why there is no plan
-abbrev pub IsPlanStop : (A : Type 0) → Option (List ℕ) → (List ℕ → Option (List ℕ)) → PlanStop → Type 0
+abbrev pub IsPlanStop : (A : Type 0) → (net : Option (List ℕ))
+    → (named : List ℕ → Option (List ℕ)) → PlanStop → Type 0
 IsPlanStop A net named (stop.Plan fault) = IsRefusedPlan A net named fault × (fault ≢ refusal.Memory)
 IsPlanStop A net named (stop.Unread fault) = Unit {0}
 
 -- what a fault of the plan stops with: want of memory is none of the plan's
 abbrev pub StopsWith : PlanError → PlanStop → Type 0
 StopsWith fault (stop.Plan other) = (other ≡ fault) × (fault ≢ refusal.Memory)
-StopsWith fault (stop.Unread reason) = Unit {0}
-
--- the line of a text that isn't read
-abbrev pub unread_line : ReadFault → List ℕ
-unread_line unread.Memory = memory_line
-unread_line unread.Read = read_line
+StopsWith fault (stop.Unread reason) = (fault ≡ refusal.Memory) × (reason ≡ unread.Memory)
 
 -- what is said of a stop; where there is no memory for a fault's line, that is said
 abbrev pub SaysPlanStop : PlanStop → List ℕ → Type 0
@@ -70,7 +65,8 @@ SaysPlanStop (stop.Plan fault) lines = (lines ≡ plan_fault_line fault) ⊎ (li
 SaysPlanStop (stop.Unread fault) lines = lines ≡ unread_line fault
 
 -- What is said of a stop is printed.
-pub record PrintsPlanStop (stopped : PlanStop) (old new : Option (List ℕ)) (status : Status) : Type 0 where
+pub record PrintsPlanStop (stopped : PlanStop) (old new : Option (List ℕ))
+    (status : Status) : Type 0 where
   pub lines : List ℕ
   pub said : SaysPlanStop stopped lines
   pub printed : IsPrinted old new lines Usage status

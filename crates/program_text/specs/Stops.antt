@@ -13,7 +13,7 @@ use Rattle.program_text.specs.declared.relay_text.ConfStop.TheVariants as stop
 use Rattle.program_text.specs.declared.reading.ReadFault.TheVariants as unread
 use Rattle.program_text.specs.declared.status.Status.{Status}
 use Rattle.program_text.specs.declared.status.Status.TheVariants.{Usage}
-use Rattle.program_text.specs.Lines.{line, memory_line, read_line}
+use Rattle.program_text.specs.Lines.{line, memory_line, read_line, unread_line}
 use Rattle.program_text.specs.Output.{IsPrinted}
 use Rattle.program_text.specs.Texts.{IsTextOf}
 
@@ -44,8 +44,7 @@ IsConfStop conf (stop.Unread fault) = Unit {0}
 abbrev pub stop_line : ConfStop → List ℕ
 stop_line (stop.Text fault) = line (codes "fault " ++ text_fault_text fault)
 stop_line (stop.Relay fault) = line (codes "fault " ++ relay_fault_text fault)
-stop_line (stop.Unread unread.Memory) = memory_line
-stop_line (stop.Unread unread.Read) = read_line
+stop_line (stop.Unread fault) = unread_line fault
 
 -- What is said of a stop is printed; where there is no memory for its line, that is said.
 pub record PrintsConfStop (stopped : ConfStop) (old new : Option (List ℕ))

@@ -1,7 +1,8 @@
 //! Why no relay, or no plan, is read, as a line that is printed.
 
 ghost use Rattle.std.specs.Prelude.{◌≡◌, IfOk, string_bytes};
-ghost use Rattle.program_text.specs.Plans.{unread_line as unread_line_of, PrintsPlanStop};
+ghost use Rattle.program_text.specs.Lines.{unread_line as unread_line_of};
+ghost use Rattle.program_text.specs.Plans.{PrintsPlanStop};
 ghost use Rattle.program_text.specs.Stops.{stop_line as stop_line_of, PrintsConfStop};
 
 use crate::plan_text::PlanStop;
@@ -27,8 +28,7 @@ pub fn stop_line<A: Allocator>(alloc: A, stop: ConfStop) -> Result<String<A>, Al
     match stop {
         ConfStop::Text(fault) => format!(in alloc; "fault {fault}\n"),
         ConfStop::Relay(fault) => format!(in alloc; "fault {fault}\n"),
-        ConfStop::Unread(ReadFault::Memory) => String::from_str(alloc, "fault memory\n"),
-        ConfStop::Unread(ReadFault::Read) => String::from_str(alloc, "fault read\n"),
+        ConfStop::Unread(fault) => String::from_str(alloc, unread_line(fault)),
     }
 }
 

@@ -12,7 +12,8 @@ use Rattle.loss_checker.specs.declared.broken.BrokenRule.{BrokenRule}
 use Rattle.loss_rules.specs.Breaks.{Subject}
 use Rattle.program_text.specs.declared.plan_text.PlanStop.TheVariants as stop
 use Rattle.plan_answers.specs.Networks.{IsStopLine}
-use Rattle.program_text.specs.Plans.{PrintsPlanStop, unread_line}
+use Rattle.program_text.specs.Lines.{unread_line}
+use Rattle.program_text.specs.Plans.{PrintsPlanStop}
 use Rattle.plan_lines.specs.Forms.{confs_named}
 use Rattle.plan_lines.specs.Plans.{texts}
 use Rattle.program_text.specs.declared.reading.ReadFault.{ReadFault}

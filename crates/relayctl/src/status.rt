@@ -3,7 +3,7 @@
 ghost use Rattle.std.specs.Prelude.{map, MatchResult};
 ghost use Rattle.folder_counts.specs.Status.{PrintsStatus};
 ghost use Rattle.folder_listing.specs.Files.{named_of};
-ghost use Rattle.program_text.specs.Plans.{unread_line};
+ghost use Rattle.program_text.specs.Lines.{unread_line};
 ghost use Rattle.program_text.specs.Output.{IsPrinted};
 ghost use Rattle.program_text.specs.declared.status.Status.TheVariants.{Usage};
 

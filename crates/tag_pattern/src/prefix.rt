@@ -32,9 +32,15 @@ impl From<AllocError> for PrefixError {
 }
 
 /// A prefix: 1 to 64 ASCII letters, digits, `_`, `-` and `.`. To contracts it is its bytes.
-#[derive(Drop)]
 pub struct Prefix<A: Allocator> {
     bytes: Vec<u8, A>,
+}
+
+// By hand, so that crates above don't prove again how its parts end.
+impl<A: Allocator> Drop for Prefix<A> {
+    fn drop(self) {
+        let Prefix { bytes: _ } = self;
+    }
 }
 
 impl<A: Allocator> Model for Prefix<A> {

@@ -17,9 +17,15 @@ use std::marker::Model;
 
 /// A plain pattern with a prefix in front, of any number of items. To contracts it is the list of
 /// its items.
-#[derive(Drop)]
 pub struct PrefixedPlain<A: Allocator> {
     items: Vec<PatternItem<Vec<u8, A>>, A>,
+}
+
+// By hand, so that crates above don't prove again how its parts end.
+impl<A: Allocator> Drop for PrefixedPlain<A> {
+    fn drop(self) {
+        let PrefixedPlain { items: _ } = self;
+    }
 }
 
 impl<A: Allocator> Model for PrefixedPlain<A> {
