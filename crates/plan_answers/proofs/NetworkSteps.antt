@@ -12,8 +12,8 @@ use Rattle.program_text.specs.declared.status.Status.{Status}
 use Rattle.program_text.specs.declared.status.Status.TheVariants.{Usage}
 use Rattle.program_text.specs.Lines.{unread_line}
 use Rattle.program_text.specs.Plans.{IsPlanStop, SaysPlanStop, PrintsPlanStop}
-use Rattle.plan_answers.specs.Networks.{IsAnswered, IsFaultLine, IsStopLine, PrintsCheck, PrintsReplay, AreReplayed, answer_line, answer_status, joined_status}
-use Rattle.plan_answers.specs.Networks.{says_answer, says_fault, says_stop, lists_steps, lists_no_steps, lists_fault, lists_stop, prints_lines, ends_at_answer}
+use Rattle.plan_answers.specs.Networks.{IsAnswered, SaysNoAnswer, IsStopLine, PrintsCheck, PrintsReplay, AreReplayed, answer_line, answer_status, joined_status}
+use Rattle.plan_answers.specs.Networks.{says_fault, says_stop, says_answer, says_none, lists_steps, lists_no_steps, lists_none, prints_lines, ends_at_answer}
 use Rattle.program_text.specs.Output.{TakesPart, IsPrinted}
 
 -- the answer's line is printed
@@ -28,31 +28,25 @@ answered_check A net named old new plan found lines status answered is printed =
 
 -- what stops is printed in place of an answer
 pub stop_said : (A : Type 0) (net : Option (List ℕ)) (named : List ℕ → Option (List ℕ)) (stopped : PlanStop) (lines : List ℕ) → IsPlanStop A net named stopped → SaysPlanStop stopped lines
-    → IsFaultLine A net named lines Usage ⊎ IsStopLine lines Usage
-stop_said A net named (stop.Plan fault) lines of (inl is) = inl (record { fault = fault; refused = of.0; named_fault = of.1; lines_are = is; is_status = refl })
-stop_said A net named (stop.Plan fault) lines of (inr is) = inr (record { lines_are = inl is; is_status = refl })
-stop_said A net named (stop.Unread unread.Memory) lines of is = inr (record { lines_are = inl is; is_status = refl })
-stop_said A net named (stop.Unread unread.Read) lines of is = inr (record { lines_are = inr is; is_status = refl })
+    → SaysNoAnswer A net named lines
+stop_said A net named (stop.Plan fault) lines of (inl is) = says_fault fault of.0 is
+stop_said A net named (stop.Plan fault) lines of (inr is) = says_stop (inl is)
+stop_said A net named (stop.Unread unread.Memory) lines of is = says_stop (inl is)
+stop_said A net named (stop.Unread unread.Read) lines of is = says_stop (inr is)
 
 pub stopped_check : (A : Type 0) (net : Option (List ℕ)) (named : List ℕ → Option (List ℕ)) (old new : Option (List ℕ)) (stopped : PlanStop) (status : Status)
     → IsPlanStop A net named stopped → PrintsPlanStop stopped old new status → PrintsCheck A net named old new status
 stopped_check A net named old new stopped status of prints = record {
   lines = prints.lines;
   meant = Usage;
-  checked = elim (stop_said A net named stopped prints.lines of prints.said) [
-    | inl fault ↦ says_fault fault
-    | inr cause ↦ says_stop cause
-  ];
+  checked = says_none (stop_said A net named stopped prints.lines of prints.said) refl;
   printed = prints.printed;
 }
 
 pub stopped_replay : (A : Type 0) (net : Option (List ℕ)) (named : List ℕ → Option (List ℕ)) (steps old new : Option (List ℕ)) (stopped : PlanStop) (status : Status)
     → IsPlanStop A net named stopped → PrintsPlanStop stopped old new status → PrintsReplay A net named steps old new status
 stopped_replay A net named steps old new stopped status of prints = prints_lines prints.lines Usage
-    (elim (stop_said A net named stopped prints.lines of prints.said) [
-      | inl fault ↦ lists_fault fault
-      | inr cause ↦ lists_stop cause
-    ]) prints.printed
+    (lists_none (stop_said A net named stopped prints.lines of prints.said) refl) prints.printed
 
 -- the writer failed in the answer's line
 pub cut_replay : (A : Type 0) (net : Option (List ℕ)) (named : List ℕ → Option (List ℕ)) (steps old new : Option (List ℕ)) (plan : Subject A) (found : Answer) (lines : List ℕ)
@@ -85,9 +79,9 @@ whole_replay A net named steps old mid new plan found front behind after status 
     (printed_behind old mid new front behind (joined_status found after) status takes printed)
 
 -- the line of a text that isn't read is one that ends a listing
-stop_line : (fault : ReadFault) (lines : List ℕ) → lines ≡ unread_line fault → IsStopLine lines Usage
-stop_line unread.Memory lines is = record { lines_are = inl is; is_status = refl }
-stop_line unread.Read lines is = record { lines_are = inr is; is_status = refl }
+stop_line : (fault : ReadFault) (lines : List ℕ) → lines ≡ unread_line fault → IsStopLine lines
+stop_line unread.Memory lines is = inl is
+stop_line unread.Read lines is = inr is
 
 -- steps can't be read behind the answer's line
 pub unread_replay : (A : Type 0) (net : Option (List ℕ)) (named : List ℕ → Option (List ℕ)) (steps old mid new : Option (List ℕ)) (plan : Subject A) (found : Answer) (front behind : List ℕ) (fault : ReadFault) (status : Status)
@@ -95,5 +89,5 @@ pub unread_replay : (A : Type 0) (net : Option (List ℕ)) (named : List ℕ →
     → PrintsReplay A net named steps old new status
 unread_replay A net named steps old mid new plan found front behind fault status answered is takes line printed =
     prints_lines (front ++ behind) Usage
-    (lists_no_steps plan found behind answered (stop_line fault behind line) (ap (λ l. l ++ behind) is))
+    (lists_no_steps plan found behind answered (stop_line fault behind line) (ap (λ l. l ++ behind) is) refl)
     (printed_behind old mid new front behind Usage status takes printed)

@@ -1,11 +1,10 @@
 -- What is printed of a network's plan, and of a plan with steps.
-use Rattle.std.specs.Prelude.{◌≡◌, ◌≢◌, ◌<◌, ℕ, List, ◌++◌, length, Option, ◌⊎◌}
+use Rattle.std.specs.Prelude.{◌≡◌, ◌<◌, ℕ, List, ◌++◌, length, Option, ◌⊎◌}
 use Rattle.loss_rules.specs.Breaks.{Subject, IsAnswer}
 use Rattle.loss_rules.specs.Printed.{answer_text}
 use Rattle.loss_rules.specs.declared.answer.Answer.{Answer}
 use Rattle.loss_rules.specs.declared.answer.Answer.TheVariants as answer
 use Rattle.plan_lines.specs.declared.error.PlanError.{PlanError}
-use Rattle.plan_lines.specs.declared.error.PlanError.TheVariants as refusal
 use Rattle.program_text.specs.declared.status.Status.{Status}
 use Rattle.program_text.specs.declared.status.Status.TheVariants.{Done, No, Usage}
 use Rattle.program_text.specs.Lines.{line, memory_line, read_line}
@@ -31,15 +30,6 @@ pub record IsAnswered (A : Type 0) (net : Option (List ℕ)) (named : List ℕ �
   pub plan_is : IsPlanRead net named plan
   pub answer_is : IsAnswer plan found
 
--- No plan is read, and this is the line that says why.
-pub record IsFaultLine (A : Type 0) (net : Option (List ℕ)) (named : List ℕ → Option (List ℕ))
-    (lines : List ℕ) (status : Status) : Type 0 where
-  pub fault : PlanError
-  pub refused : IsRefusedPlan A net named fault
-  pub named_fault : fault ≢ refusal.Memory
-  pub lines_are : lines ≡ plan_fault_line fault
-  pub is_status : status ≡ Usage
-
 -- Steps of a text are taken in the network of a plan with this answer, and this is listed of them.
 pub record AreReplayed {A : Type 0} (plan : Subject A) (found : Answer) (steps : Option (List ℕ))
     (lines : List ℕ) (status : Status) : Type 0 where
@@ -50,9 +40,15 @@ pub record AreReplayed {A : Type 0} (plan : Subject A) (found : Answer) (steps :
 -- All that is printed, in lines.
 
 -- Memory ran out, or a reader failed, and this is the line that says so.
-pub record IsStopLine (lines : List ℕ) (status : Status) : Type 0 where
-  pub lines_are : (lines ≡ memory_line) ⊎ (lines ≡ read_line)
-  pub is_status : status ≡ Usage
+abbrev pub IsStopLine : List ℕ → Type 0
+IsStopLine lines = (lines ≡ memory_line) ⊎ (lines ≡ read_line)
+
+-- There is no answer, and this is the line that says why: the plan's first fault, or what stopped.
+pub data SaysNoAnswer (A : Type 0) (net : Option (List ℕ)) (named : List ℕ → Option (List ℕ))
+    (lines : List ℕ) : Type 0 where
+  says_fault : (fault : PlanError) → IsRefusedPlan A net named fault
+      → lines ≡ plan_fault_line fault → SaysNoAnswer A net named lines
+  says_stop : IsStopLine lines → SaysNoAnswer A net named lines
 
 -- What `check` prints of a plan: the line of its answer, or the line that says why there is none.
 pub data IsChecked (A : Type 0) (net : Option (List ℕ)) (named : List ℕ → Option (List ℕ))
@@ -60,8 +56,7 @@ pub data IsChecked (A : Type 0) (net : Option (List ℕ)) (named : List ℕ → 
   says_answer : (plan : Subject A) (found : Answer) → IsAnswered A net named plan found
       → lines ≡ answer_line found → status ≡ answer_status found
       → IsChecked A net named lines status
-  says_fault : IsFaultLine A net named lines status → IsChecked A net named lines status
-  says_stop : IsStopLine lines status → IsChecked A net named lines status
+  says_none : SaysNoAnswer A net named lines → status ≡ Usage → IsChecked A net named lines status
 
 -- the status of a plan's answer and of steps in it: a no stays a no, whatever becomes of the events
 abbrev pub joined_status : Answer → Status → Status
@@ -78,10 +73,11 @@ pub data IsReplayedIn (A : Type 0) (net : Option (List ℕ)) (named : List ℕ �
       → lines ≡ answer_line found ++ behind → status ≡ joined_status found after
       → IsReplayedIn A net named steps lines status
   lists_no_steps : (plan : Subject A) (found : Answer) (behind : List ℕ)
-      → IsAnswered A net named plan found → IsStopLine behind status
-      → lines ≡ answer_line found ++ behind → IsReplayedIn A net named steps lines status
-  lists_fault : IsFaultLine A net named lines status → IsReplayedIn A net named steps lines status
-  lists_stop : IsStopLine lines status → IsReplayedIn A net named steps lines status
+      → IsAnswered A net named plan found → IsStopLine behind
+      → lines ≡ answer_line found ++ behind → status ≡ Usage
+      → IsReplayedIn A net named steps lines status
+  lists_none : SaysNoAnswer A net named lines → status ≡ Usage
+      → IsReplayedIn A net named steps lines status
 
 -- What a writer gets.
 

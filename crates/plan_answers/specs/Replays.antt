@@ -1,5 +1,6 @@
 -- What is printed of steps that are taken in a network.
-use Rattle.std.specs.Prelude.{◌≡◌, ◌==◌, ℕ, List, ◌++◌, codes, decimal, length, map, flat_map, cond, not, count_by, All, Bool, IsTrue, ◌↔◌}
+use Rattle.std.specs.Prelude.{◌≡◌, ◌==◌, ℕ, List, ◌++◌, codes, decimal, length, flat_map, zip, cond, not, count_by, Bool, IsTrue, ◌↔◌}
+use Rattle.std.specs.List.{AllZip}
 use Rattle.hex.specs.Hex.{encode_lower}
 use Rattle.custody_core.specs.Custody.{EachBranchKeeps, IsKeptAs, NothingIsLost, NothingIsMadeUp}
 use Rattle.custody_steps.specs.Steps.{Steps, IsRefusedAt}
@@ -21,35 +22,24 @@ use Rattle.program_text.specs.declared.status.Status.{Status}
 use Rattle.program_text.specs.declared.status.Status.TheVariants.{Done, No, Usage}
 use Rattle.program_text.specs.Lines.{line}
 
--- an acknowledged event, and whether it is kept as the plan asks
-pub record Fate : Type 0 where
-  pub told : Told
-  pub is_held : Bool
+-- the line of what became of an acknowledged event, under the tag that the client sent: whether it
+-- is held
+abbrev pub fate_line : Told × Bool → List ℕ
+fate_line (told, is_held) = line (cond is_held (codes "held ") (codes "lost ") ++ told.event.tag
+    ++ codes " " ++ encode_lower told.event.entry)
 
--- the line of what became of an event, under the tag that the client sent
-abbrev pub fate_line : Fate → List ℕ
-fate_line fate =
-    line (cond fate.is_held (codes "held ") (codes "lost ") ++ fate.told.event.tag ++ codes " "
-    ++ encode_lower fate.told.event.entry)
-
--- These lines are those of the events of the world that were acknowledged to clients, in that order,
--- each with what became of it; and so many of them are lost.
-pub record AreListed {A : Type 0} (asked : Duty) (net : Network A) (w : World) (lines : List ℕ)
-    (lost : ℕ) : Type 0 where
-  pub fates : List Fate
-  pub events : map (λ fate. fate.told) fates ≡ w.acknowledged
-  pub held : All (λ fate. IsTrue fate.is_held ↔ IsKeptAs asked net w fate.told) fates
-  pub lines_are : lines ≡ flat_map fate_line fates
-  pub lost_is : lost ≡ count_by (λ fate. not fate.is_held) fates
-
--- The listing of a world after so many steps: a line for each event that was acknowledged, and the
--- last line.
+-- The listing of a world after so many steps: a line for each event that was acknowledged to a
+-- client, in that order, which says whether it is kept as the plan asks; and the last line, which
+-- says how many aren't.
 pub record IsWorldListing {A : Type 0} (asked : Duty) (net : Network A) (w : World) (steps : ℕ)
     (written : List ℕ) (status : Status) : Type 0 where
-  pub lines : List ℕ
+  pub held : List Bool
+  pub are_held : AllZip (λ told is_held. IsTrue is_held ↔ IsKeptAs asked net w told)
+      w.acknowledged held
   pub lost : ℕ
-  pub listed : AreListed asked net w lines lost
-  pub written_is : written ≡ lines ++ line (codes "steps " ++ decimal steps ++ codes " acknowledged "
+  pub lost_is : lost ≡ count_by not held
+  pub written_is : written ≡ flat_map fate_line (zip w.acknowledged held)
+      ++ line (codes "steps " ++ decimal steps ++ codes " acknowledged "
       ++ decimal (length w.acknowledged) ++ codes " lost " ++ decimal lost)
   pub is_status : status ≡ cond (lost == 0) Done No
 

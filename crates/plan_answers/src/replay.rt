@@ -1,10 +1,12 @@
 //! The listing of steps that are taken in a network.
 
-ghost use Rattle.std.specs.Prelude.{◌≡◌, ◌++◌, ℕ, List, string_bytes, IfOk, IfSome, OnOk, cond, ◌==◌, codes, decimal};
+ghost use Rattle.std.specs.Prelude.{◌≡◌, ◌++◌, ◌↔◌, ℕ, Bool, List, string_bytes, IfOk, IfSome, IsTrue, OnOk, cond, count_by, flat_map, not, zip, ◌==◌, codes, decimal};
+ghost use Rattle.std.specs.List.{AllZip};
+ghost use Rattle.custody_core.specs.Custody.{IsKeptAs};
 ghost use Rattle.custody_steps.specs.WorldOf.{world_of, net_of};
 ghost use Rattle.custody_store.specs.Contents.{event_of};
 ghost use Rattle.loss_rules.specs.declared.answer.Answer.{Answer};
-ghost use Rattle.plan_answers.specs.Replays.{AreListed, IsCodeOf, IsWorldListing, IsReplayed, IsYesEarned};
+ghost use Rattle.plan_answers.specs.Replays.{fate_line, IsCodeOf, IsWorldListing, IsReplayed, IsYesEarned};
 ghost use Rattle.hex.specs.Hex.{encode_lower};
 ghost use Rattle.program_text.specs.Lines.{line};
 
@@ -149,9 +151,12 @@ fn list_fates<A: Allocator + Copy>(
     world: &World<'_, A>,
     duty: Duty,
 ) -> Result<Fates<A>, AllocError>
-    ensures { IfOk result
-        (λ listed. AreListed duty (net_of world.now)
-        (world_of world.now) listed.lines.items listed.lost) }
+    ensures { IfOk result (λ listed. (held : List Bool)
+        × AllZip (λ told is_held. IsTrue is_held
+        ↔ IsKeptAs duty (net_of world.now) (world_of world.now) told)
+        (world_of world.now).acknowledged held
+        × (listed.lines.items ≡ flat_map fate_line (zip (world_of world.now).acknowledged held))
+        × (listed.lost ≡ count_by not held)) }
 {
     let mut lines = Vec::new(alloc);
     let mut lost = 0usize;

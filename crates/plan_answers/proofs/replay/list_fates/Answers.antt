@@ -1,6 +1,7 @@
 use Rattle.std.proofs.Common.{◌≡◌, ◌≤◌, ◌+◌, ap, sym, ◌∙◌, cond, add-zero, arith}
 use Rattle.custody_steps.specs.WorldOf.{world_of, net_of}
-use Rattle.plan_answers.proofs.Fates.{listed_more, held_event}
+use Rattle.std.proofs.lemmas.List.{take_all}
+use Rattle.plan_answers.proofs.Fates.{listed_all, listed_more, held_event}
 use Rattle.plan_answers.proofs.replay.list_fates.Goals.{then-not-is_held, else-not-is_held}
 use Rattle.plan_answers.proofs.replay.list_fates.Goals as goal
 
@@ -21,3 +22,9 @@ loop-number-preserved g c =
     listed_more c.args.duty net w c.acknowledged-events.result.now c.loop-number.number c.loop-number.lines.items c.loop-number.lost c.index-events-number.result is_held
     c.put_fate.new.lines.items c.if-not-is_held.lost c.loop-number.invariant c.loop-number-test.true c.index-events-number.is held
     c.in_ok-put_fate.ensures lost few
+
+pub returns : goal.returns
+returns g c =
+    let events = c.acknowledged-events.result.now in
+    listed_all c.args.duty (net_of c.args.world.now) (world_of c.args.world.now) events c.loop-number.number c.loop-number.lines.items c.loop-number.lost
+    c.acknowledged-events.ensures (take_all c.loop-number.number events c.loop-number-test.false) c.loop-number.invariant

@@ -13,10 +13,12 @@ returns g c =
     let all : length c.acknowledged-acknowledged.result.now ≡ length w.acknowledged = sym (length-map c.acknowledged-acknowledged.result.now told_of) ∙ ap length c.acknowledged-acknowledged.ensures in
     let written = λ (n : ℕ). c.extend_from_slice.new.self.items ≡ said.lines.items ++ (line (codes "steps " ++ decimal c.args.steps ++ codes " acknowledged " ++ decimal n ++ codes " lost " ++ decimal said.lost)) in
     let whole : written (length c.acknowledged-acknowledged.result.now) = search rules in
+    let last = line (codes "steps " ++ decimal c.args.steps ++ codes " acknowledged " ++ decimal (length w.acknowledged) ++ codes " lost " ++ decimal said.lost) in
     record {
-      lines = said.lines.items;
+      held = c.in_ok-said.ensures.0;
+      are_held = c.in_ok-said.ensures.1;
       lost = said.lost;
-      listed = c.in_ok-said.ensures;
-      written_is = subst written all whole;
+      lost_is = c.in_ok-said.ensures.3;
+      written_is = subst written all whole ∙ ap (λ lines. lines ++ last) c.in_ok-said.ensures.2;
       is_status = c.status_of_loss.ensures;
     }
