@@ -1,10 +1,12 @@
 -- Steps over what comes on a stream.
 use Rattle.std.proofs.Common.{◌≡◌, ℕ, List, [], ◌∷◌, ◌++◌, refl, sym, ap, ◌∙◌, subst, append_assoc, append-nil}
 use Rattle.std.proofs.Common.{Err}
+use Rattle.std.specs.List.{flat_map}
+use Rattle.std.proofs.lemmas.Grind.{flat_map-append}
 use Rattle.event_modes.specs.Stream.{Arrival, IsArrival, Splits}
 use Rattle.event_modes.specs.Feeding.{Feeding, TakesOff}
 use Rattle.stream_listing.specs.HexText.{digits_of}
-use Rattle.stream_listing.specs.Listing.{arrival_lines, lines_of}
+use Rattle.stream_listing.specs.Listing.{arrival_lines}
 use Rattle.stream_listing.specs.declared.decode.Stop.TheVariants.{Memory}
 use Rattle.stream_listing.specs.Decoding.{Lists}
 use Rattle.stream_listing.proofs.HexSteps.{AreDigitsUpTo-none}
@@ -27,17 +29,16 @@ pub Splits-one : (bytes front rest : List ℕ) (arrival : Arrival) → IsArrival
 Splits-one bytes front rest arrival h e = (front, rest, h, refl, e)
 
 -- the lines of one arrival more
-pub lines_of-push : (arrivals : List Arrival) (arrival : Arrival) → lines_of (arrivals ++ arrival ∷ []) ≡ lines_of arrivals ++ arrival_lines arrival
-lines_of-push [] arrival = append-nil (arrival_lines arrival)
-lines_of-push (a ∷ arrivals) arrival =
-    ap (λ l. arrival_lines a ++ l) (lines_of-push arrivals arrival) ∙ sym (append_assoc (arrival_lines a) (lines_of arrivals) (arrival_lines arrival))
+lines-push : (arrivals : List Arrival) (arrival : Arrival) → flat_map arrival_lines (arrivals ++ arrival ∷ []) ≡ flat_map arrival_lines arrivals ++ arrival_lines arrival
+lines-push arrivals arrival =
+    flat_map-append arrival_lines arrivals (arrival ∷ []) ∙ ap (λ l. flat_map arrival_lines arrivals ++ l) (append-nil (arrival_lines arrival))
 
 -- of the bytes that were fed these are held still, and the lines of what was taken off stand behind
 -- those at the start
 pub record Listed (fed held start lines : List ℕ) : Type 0 where
   pub arrivals : List Arrival
   pub splits : Splits fed arrivals held
-  pub whole : lines ≡ start ++ lines_of arrivals
+  pub whole : lines ≡ start ++ flat_map arrival_lines arrivals
 
 pub Listed-none : (fed start : List ℕ) → Listed fed fed start start
 Listed-none fed start = record { arrivals = []; splits = refl; whole = sym (append-nil start) }
@@ -48,8 +49,8 @@ pub Listed-taken : (fed start before after : List ℕ) (arrival : Arrival) (old 
 Listed-taken fed start before after arrival old new h k e = record {
   arrivals = h.arrivals ++ arrival ∷ [];
   splits = Splits-trans fed old.held new.held h.arrivals (arrival ∷ []) h.splits (Splits-one old.held k.front new.held arrival k.is k.whole);
-  whole = e ∙ ap (λ l. l ++ arrival_lines arrival) h.whole ∙ append_assoc start (lines_of h.arrivals) (arrival_lines arrival)
-      ∙ ap (λ l. start ++ l) (sym (lines_of-push h.arrivals arrival));
+  whole = e ∙ ap (λ l. l ++ arrival_lines arrival) h.whole ∙ append_assoc start (flat_map arrival_lines h.arrivals) (arrival_lines arrival)
+      ∙ ap (λ l. start ++ l) (sym (lines-push h.arrivals arrival));
 }
 
 -- nothing came of the piece

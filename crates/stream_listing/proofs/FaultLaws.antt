@@ -1,5 +1,5 @@
 -- What is known of a fault of the stream.
-use Rattle.std.proofs.Common.{inl, inr, ℕ, List, [], ◌∷◌, ◌++◌, ap, ◌∙◌, subst, append_assoc, append-nil, arith}
+use Rattle.std.proofs.Common.{inl, inr, ℕ, ◌≡◌, List, [], ◌∷◌, ◌++◌, sym, ap, ◌∙◌, subst, append_assoc, append-nil, arith}
 use Rattle.msgpack_bytes.specs.Item.{IsItemWithin, IsOpen}
 use Rattle.msgpack_bytes.specs.Fault.{IsFaulty}
 use Rattle.msgpack_bytes.specs.declared.answers.MsgFault.{MsgFault}
@@ -8,6 +8,8 @@ use Rattle.event_modes.specs.declared.fault.ModeFault.{ModeFault}
 use Rattle.event_modes.specs.Stream.{Arrival, Sent, Heartbeat, IsArrival, IsRest, IsLost}
 use Rattle.event_modes.specs.Faults.{StreamFault}
 use Rattle.event_modes.proofs.Only.{stream_one, open_unfaulted, nil_faultless, faultless}
+use Rattle.event_modes.proofs.One.{arrival_text}
+use Rattle.event_modes.proofs.Parting.{same_front, text_item}
 use Rattle.event_modes.proofs.Aheads.{none_open}
 use Rattle.event_modes.proofs.Scans.{not_faulty}
 use Rattle.stream_listing.specs.Listing.{IsPending}
@@ -36,6 +38,17 @@ faulty_lost why bytes h = record {
   has_none = λ front back e text. not_faulty why bytes (record { front = front; back = back; is = text; whole = e }) h;
 }
 
+-- bytes that begin with an arrival have none
+fault_first : (bytes front back : List ℕ) (arrival : Arrival) (fault : ModeFault) → StreamFault bytes fault → IsArrival front arrival → bytes ≡ front ++ back → ⊥
+fault_first bytes front back arrival fault (inl p) a e = not_faulty p.0 bytes (record { front = front; back = back; is = arrival_text front arrival a; whole = e }) p.2
+fault_first bytes front back arrival fault (inr p) a e =
+    let same = same_front front p.0 back p.1 (text_item front (arrival_text front arrival a)) (text_item p.0 p.2) (sym e ∙ p.4) in
+    alone arrival (subst (λ b. IsArrival b arrival) same a)
+  where
+    alone : (arrival : Arrival) → IsArrival p.0 arrival → ⊥
+    alone (Sent parts) a = faultless p.0 parts fault a p.3
+    alone Heartbeat a = nil_faultless p.0 fault a p.3
+
 -- it is where the messages end
 pub fault_rest : (bytes : List ℕ) (fault : ModeFault) → StreamFault bytes fault → IsRest bytes
 fault_rest bytes fault (inl p) = inr (inr (inr (faulty_lost p.0 bytes p.2)))
@@ -52,7 +65,7 @@ fault_rest bytes fault (inr p) = inr (inr (inl (record {
 
 pub stands_for_good : StandsForGood
 stands_for_good bytes fault h = record {
-  is_rest = fault_rest bytes fault h;
+  begins_none = λ front back arrival a e. fault_first bytes front back arrival fault h a e;
   not_pending = fault_not_pending bytes fault h;
   one = λ other k. stream_one bytes fault other h k;
   stays = λ more. fault_stays bytes more fault h;

@@ -1,9 +1,10 @@
 -- There is one way to read hex digits.
-use Rattle.std.proofs.Common.{◌≡◌, ◌⊎◌, inl, inr, ℕ, List, [], ◌∷◌, ◌++◌, Ok, refl, sym, ap, ◌∙◌, subst}
+use Rattle.std.proofs.Common.{◌≡◌, ◌⊎◌, inl, inr, ℕ, List, [], ◌∷◌, ◌++◌, take, Ok, refl, sym, ap, ◌∙◌, subst}
 use Rattle.std.specs.Prelude.{IsErr}
 use Rattle.hex.specs.Hex.{decode_of}
 use Rattle.hex.proofs.HexLemmas.{decode_of-same}
-use Rattle.stream_listing.specs.HexText.{AreDigitsOf, AreDigitsUpTo, IsBroken}
+use Rattle.stream_listing.specs.HexText.{AreDigitsUpTo}
+use Rattle.stream_listing.proofs.HexPairs.{AreDigitsOf, pairs_of, pairs_decode}
 
 -- one reading goes on where the other ended
 abbrev pub GoesOn : List ℕ → List ℕ → List ℕ → List ℕ → Type 0
@@ -14,10 +15,10 @@ same_byte high low one other h k = let e = decode_of-same (high ∷ low ∷ []) 
 
 compare_fronts : (front other bytes others left rest : List ℕ) → AreDigitsOf front bytes → AreDigitsOf other others → front ++ left ≡ other ++ rest
     → GoesOn bytes left others rest ⊎ GoesOn others rest bytes left
-compare_fronts [] other [] others left rest h k e = inl (others, refl, record { front = other; spelled = k; whole = e })
+compare_fronts [] other [] others left rest h k e = inl (others, refl, record { front = other; spelled = pairs_decode other others k; whole = e })
 compare_fronts [] other (b ∷ bytes) others left rest h k e = absurd h
 compare_fronts (d ∷ []) other bytes others left rest h k e = absurd h
-compare_fronts (c ∷ d ∷ front) [] bytes [] left rest h k e = inr (bytes, refl, record { front = c ∷ d ∷ front; spelled = h; whole = sym e })
+compare_fronts (c ∷ d ∷ front) [] bytes [] left rest h k e = inr (bytes, refl, record { front = c ∷ d ∷ front; spelled = pairs_decode (c ∷ d ∷ front) bytes h; whole = sym e })
 compare_fronts (c ∷ d ∷ front) [] bytes (b ∷ others) left rest h k e = absurd k
 compare_fronts (c ∷ d ∷ front) (x ∷ []) bytes others left rest h k e = absurd k
 compare_fronts (c ∷ d ∷ front) (x ∷ y ∷ other) [] others left rest h k e = absurd h
@@ -35,25 +36,21 @@ compare_fronts (c ∷ d ∷ front) (x ∷ y ∷ other) (b ∷ bytes) (a ∷ othe
 -- of two readings one goes on where the other ended
 pub compare : (digits bytes others left rest : List ℕ) → AreDigitsUpTo digits bytes left → AreDigitsUpTo digits others rest
     → GoesOn bytes left others rest ⊎ GoesOn others rest bytes left
-compare digits bytes others left rest h k = compare_fronts h.front k.front bytes others left rest h.spelled k.spelled (sym h.whole ∙ k.whole)
+compare digits bytes others left rest h k =
+    compare_fronts h.front k.front bytes others left rest (pairs_of h.front bytes h.spelled) (pairs_of k.front others k.spelled) (sym h.whole ∙ k.whole)
 
--- nothing goes on where nothing is left
-pub ends_whole : (bytes others rest : List ℕ) → GoesOn bytes [] others rest → (others ≡ bytes ++ []) × (rest ≡ [])
-ends_whole bytes others rest h = ends bytes others rest h.0 h.2.front h.1 h.2.spelled h.2.whole where
-  ends : (bytes others rest more front : List ℕ) → others ≡ bytes ++ more → AreDigitsOf front more → [] ≡ front ++ rest → (others ≡ bytes ++ []) × (rest ≡ [])
-  ends bytes others rest [] [] e s w = (e, sym w)
-  ends bytes others rest (b ∷ more) [] e s w = absurd s
-  ends bytes others rest more (d ∷ front) e s w = cc w
+-- nothing goes on where no byte stands next
+pub ends_here : (bytes left others rest : List ℕ) → (left ≡ []) ⊎ IsErr (decode_of (take 2 left)) → GoesOn bytes left others rest → (others ≡ bytes ++ []) × (rest ≡ left)
+ends_here bytes left others rest none h = ends h.0 h.2.front h.1 (pairs_of h.2.front h.0 h.2.spelled) h.2.whole where
+  no_byte : (c d byte : ℕ) (front : List ℕ) → (left ≡ []) ⊎ IsErr (decode_of (take 2 left)) → decode_of (c ∷ d ∷ []) ≡ Ok (byte ∷ []) → left ≡ c ∷ d ∷ front → ⊥
+  no_byte c d byte front (inl none) s w = (let e = sym w ∙ none in cc)
+  no_byte c d byte front (inr bad) s w =
+      let broken : IsErr (decode_of (c ∷ d ∷ [])) = subst (λ l. IsErr (decode_of (take 2 l))) w bad in
+      cc (rw s at broken)
 
--- nor where what is left is broken
-pub ends_broken : (bytes left others rest : List ℕ) → IsBroken left → GoesOn bytes left others rest → (others ≡ bytes ++ []) × (rest ≡ left)
-ends_broken bytes left others rest broken h = ends bytes left others rest h.0 h.2.front broken h.1 h.2.spelled h.2.whole where
-  ends : (bytes left others rest more front : List ℕ) → IsBroken left → others ≡ bytes ++ more → AreDigitsOf front more → left ≡ front ++ rest
-      → (others ≡ bytes ++ []) × (rest ≡ left)
-  ends bytes left others rest [] [] broken e s w = (e, sym w)
-  ends bytes left others rest (b ∷ more) [] broken e s w = absurd s
-  ends bytes left others rest more (d ∷ []) broken e s w = absurd s
-  ends bytes left others rest [] (c ∷ d ∷ front) broken e s w = absurd s
-  ends bytes left others rest (b ∷ more) (c ∷ d ∷ front) broken e s w =
-      let bad : IsErr (decode_of (c ∷ d ∷ [])) = subst IsBroken w broken in
-      absurd (cc (rw s.0 at bad))
+  ends : (more front : List ℕ) → others ≡ bytes ++ more → AreDigitsOf front more → left ≡ front ++ rest → (others ≡ bytes ++ []) × (rest ≡ left)
+  ends [] [] e s w = (e, sym w)
+  ends (b ∷ more) [] e s w = absurd s
+  ends more (d ∷ []) e s w = absurd s
+  ends [] (c ∷ d ∷ front) e s w = absurd s
+  ends (b ∷ more) (c ∷ d ∷ front) e s w = absurd (no_byte c d b (front ++ rest) none s.0 w)

@@ -5,30 +5,22 @@ use Rattle.std.specs.Char.{is_ascii_whitespace}
 use Rattle.std.proofs.lemmas.List.{append_assoc, append-nil, take-append-drop}
 use Rattle.std.proofs.lemmas.List.Elements.{filter_more, filter-append}
 use Rattle.hex.specs.Hex.{decode_of}
-use Rattle.stream_listing.specs.HexText.{digits_of, AreDigitsOf, AreDigitsUpTo, IsBroken, Breaks}
-
--- two texts, one after the other, spell the bytes of both
-pub AreDigitsOf-append : (front digits before bytes : List ℕ) → AreDigitsOf front before → AreDigitsOf digits bytes
-    → AreDigitsOf (front ++ digits) (before ++ bytes)
-AreDigitsOf-append [] digits [] bytes h k = k
-AreDigitsOf-append [] digits (b ∷ bs) bytes h k = absurd h
-AreDigitsOf-append (d ∷ []) digits before bytes h k = absurd h
-AreDigitsOf-append (a ∷ b ∷ front) digits [] bytes h k = absurd h
-AreDigitsOf-append (a ∷ b ∷ front) digits (c ∷ before) bytes h k = (h.0, AreDigitsOf-append front digits before bytes h.1 k)
+use Rattle.stream_listing.specs.HexText.{digits_of, AreDigitsUpTo, Breaks}
+use Rattle.stream_listing.proofs.HexPairs.{decode_of-append, decode_of-nil}
 
 -- what is read on begins with what was left over
 pub AreDigitsUpTo-append : (digits more bytes added held left : List ℕ) → AreDigitsUpTo digits bytes held
     → AreDigitsUpTo (held ++ more) added left → AreDigitsUpTo (digits ++ more) (bytes ++ added) left
 AreDigitsUpTo-append digits more bytes added held left h k = record {
   front = h.front ++ k.front;
-  spelled = AreDigitsOf-append h.front k.front bytes added h.spelled k.spelled;
+  spelled = decode_of-append h.front k.front bytes added h.spelled k.spelled;
   whole = ap (λ l. l ++ more) h.whole ∙ append_assoc h.front held more ∙ ap (λ l. h.front ++ l) k.whole
       ∙ sym (append_assoc h.front k.front left);
 }
 
 -- nothing is read yet
 pub AreDigitsUpTo-none : (digits : List ℕ) → AreDigitsUpTo digits [] digits
-AreDigitsUpTo-none digits = record { front = []; spelled = tt; whole = refl }
+AreDigitsUpTo-none digits = record { front = []; spelled = decode_of-nil; whole = refl }
 
 -- what follows is left over too
 pub AreDigitsUpTo-more : (digits bytes left more : List ℕ) → AreDigitsUpTo digits bytes left → AreDigitsUpTo (digits ++ more) bytes (left ++ more)
@@ -52,12 +44,12 @@ pub Breaks-more : (digits bytes more : List ℕ) → Breaks digits bytes → Bre
 Breaks-more digits bytes more h = record {
   left = h.left ++ more;
   read = AreDigitsUpTo-more digits bytes h.left more h.read;
-  broken = λ rest. subst IsBroken (sym (append_assoc h.left more rest)) (h.broken (more ++ rest));
+  broken = λ rest. subst (λ l. IsErr (decode_of (take 2 l))) (sym (append_assoc h.left more rest)) (h.broken (more ++ rest));
 }
 
 -- a second digit
 pub two_digits : (high low byte : ℕ) → decode_of (high ∷ low ∷ []) ≡ Ok (byte ∷ []) → AreDigitsUpTo (high ∷ low ∷ []) (byte ∷ []) []
-two_digits high low byte h = record { front = high ∷ low ∷ []; spelled = (h, tt); whole = refl }
+two_digits high low byte h = record { front = high ∷ low ∷ []; spelled = h; whole = refl }
 
 -- no second digit
 pub two_broken : (high low : ℕ) → IsErr (decode_of (high ∷ low ∷ [])) → Breaks (high ∷ low ∷ []) []

@@ -1,3 +1,4 @@
+pub mod HexPairs
 pub mod HexSteps
 pub mod ArrivalSteps
 pub mod DecodeSteps

@@ -1,5 +1,6 @@
 -- A hex text has one listing.
 use Rattle.std.proofs.Common.{◌≡◌, inl, inr, ℕ, List, [], ◌++◌, codes, decimal, length, cond, ◌==◌, refl, sym, ap, ◌∙◌, subst, append-nil}
+use Rattle.std.specs.List.{flat_map}
 use Rattle.event_modes.specs.declared.fault.ModeFault.{ModeFault}
 use Rattle.event_modes.specs.Stream.{Arrival, Splits, IsRest}
 use Rattle.event_modes.specs.Faults.{StreamFault}
@@ -9,12 +10,13 @@ use Rattle.event_modes.proofs.Only.{stream_one}
 use Rattle.program_text.specs.Lines.{line}
 use Rattle.program_text.specs.declared.status.Status.{Status}
 use Rattle.program_text.specs.declared.status.Status.TheVariants.{No}
-use Rattle.stream_listing.specs.HexText.{digits_of, IsBroken}
-use Rattle.stream_listing.specs.Listing.{lines_of, IsPending, Ends, at_end, at_fault, at_bad_hex, IsListing}
+use Rattle.stream_listing.specs.HexText.{digits_of, AreDigitsUpTo}
+use Rattle.stream_listing.proofs.HexPairs.{none_wrong}
+use Rattle.stream_listing.specs.Listing.{arrival_lines, IsPending, Ends, at_end, at_fault, at_bad_hex, IsListingBy}
 use Rattle.stream_listing.specs.Laws.{HasOneListing}
 use Rattle.stream_listing.proofs.FaultLaws.{fault_rest, fault_not_pending, fault_stays}
 use Rattle.stream_listing.proofs.ArrivalSteps.{Splits-more}
-use Rattle.stream_listing.proofs.HexReadings.{GoesOn, compare, ends_whole, ends_broken}
+use Rattle.stream_listing.proofs.HexReadings.{GoesOn, compare, ends_here}
 
 pending_rest : (bytes : List ℕ) → IsPending bytes → IsRest bytes
 pending_rest bytes (inl none) = inl none
@@ -58,9 +60,9 @@ met bytes left held others_left rest arrivals others h k same (at_end whole p) (
     let s = same_split bytes arrivals others held rest h k (pending_rest held p) (pending_rest rest q) in
     (s.0, ap (λ (b : List ℕ). cond (length b == 0) [] (line (codes "rest " ++ decimal (length b)))) s.1, refl)
 met bytes left held others_left rest arrivals others h k same (at_end whole p) (at_fault fault q) = absurd (no_fault bytes held rest arrivals others fault h k p q)
-met bytes left held others_left rest arrivals others h k same (at_end whole p) (at_bad_hex broken q) = absurd (subst IsBroken (sym same ∙ whole) broken)
+met bytes left held others_left rest arrivals others h k same (at_end whole p) (at_bad_hex broken q) = absurd (none_wrong others_left (sym same ∙ whole) broken)
 met bytes left held others_left rest arrivals others h k same (at_fault fault p) ended = fault_met bytes held others_left rest arrivals others fault h p k ended
-met bytes left held others_left rest arrivals others h k same (at_bad_hex broken p) (at_end whole q) = absurd (subst IsBroken (same ∙ whole) broken)
+met bytes left held others_left rest arrivals others h k same (at_bad_hex broken p) (at_end whole q) = absurd (none_wrong left (same ∙ whole) broken)
 met bytes left held others_left rest arrivals others h k same (at_bad_hex broken p) (at_fault fault q) = absurd (no_fault bytes held rest arrivals others fault h k p q)
 met bytes left held others_left rest arrivals others h k same (at_bad_hex broken p) (at_bad_hex other_broken q) =
     let s = same_split bytes arrivals others held rest h k (pending_rest held p) (pending_rest rest q) in
@@ -71,26 +73,28 @@ one_goes_on : (bytes left held others_bytes others_left rest : List ℕ) {last o
     → Splits bytes arrivals held → Splits others_bytes others rest → GoesOn bytes left others_bytes others_left
     → Ends left held last status → Ends others_left rest other_last other → IsSame arrivals others last other_last status other
 one_goes_on bytes left held others_bytes others_left rest arrivals others h k on (at_end whole p) ended =
-    let e = ends_whole bytes others_bytes others_left (subst (λ l. GoesOn bytes l others_bytes others_left) whole on) in
-    met bytes left held others_left rest arrivals others h (subst (λ b. Splits b others rest) (e.0 ∙ append-nil bytes) k) (whole ∙ sym e.1) (at_end whole p) ended
+    let e = ends_here bytes left others_bytes others_left (inl whole) on in
+    met bytes left held others_left rest arrivals others h (subst (λ b. Splits b others rest) (e.0 ∙ append-nil bytes) k) (sym e.1) (at_end whole p) ended
 one_goes_on bytes left held others_bytes others_left rest arrivals others h k on (at_fault fault p) ended =
     fault_met (bytes ++ on.0) (held ++ on.0) others_left rest arrivals others fault (Splits-more bytes held on.0 arrivals h) (fault_stays held on.0 fault p)
     (subst (λ b. Splits b others rest) on.1 k) ended
 one_goes_on bytes left held others_bytes others_left rest arrivals others h k on (at_bad_hex broken p) ended =
-    let e = ends_broken bytes left others_bytes others_left broken on in
+    let e = ends_here bytes left others_bytes others_left (inr broken) on in
     met bytes left held others_left rest arrivals others h (subst (λ b. Splits b others rest) (e.0 ∙ append-nil bytes) k) (sym e.1) (at_bad_hex broken p) ended
 
-one_reading : (text : List ℕ) (status other : Status) (written lines : List ℕ) (h : IsListing text status written) (k : IsListing text other lines)
+one_reading : (text : List ℕ) (status other : Status) (written lines : List ℕ) (h : IsListingBy Ends text status written) (k : IsListingBy Ends text other lines)
     → IsSame h.arrivals k.arrivals h.last k.last status other
 one_reading text status other written lines h k =
-    elim (compare (digits_of text) h.reads.bytes k.reads.bytes h.left k.left h.reads.read k.reads.read) [
-      | inl on ↦ one_goes_on h.reads.bytes h.left h.held k.reads.bytes k.left k.held h.arrivals k.arrivals h.reads.splits k.reads.splits on h.ends k.ends
+    let one : AreDigitsUpTo (digits_of text) h.bytes h.left = record { front = h.front; spelled = h.spelled; whole = h.digits } in
+    let two : AreDigitsUpTo (digits_of text) k.bytes k.left = record { front = k.front; spelled = k.spelled; whole = k.digits } in
+    elim (compare (digits_of text) h.bytes k.bytes h.left k.left one two) [
+      | inl on ↦ one_goes_on h.bytes h.left h.held k.bytes k.left k.held h.arrivals k.arrivals h.splits k.splits on h.ends k.ends
       | inr on ↦
-          let s = one_goes_on k.reads.bytes k.left k.held h.reads.bytes h.left h.held k.arrivals h.arrivals k.reads.splits h.reads.splits on k.ends h.ends in
+          let s = one_goes_on k.bytes k.left k.held h.bytes h.left h.held k.arrivals h.arrivals k.splits h.splits on k.ends h.ends in
           (sym s.0, sym s.1, sym s.2)
     ]
 
 pub one_listing : HasOneListing
 one_listing text status other written lines h k =
     let s = one_reading text status other written lines h k in
-    (s.2, h.lines_are ∙ ap (λ a. lines_of a ++ h.last) s.0 ∙ ap (λ l. lines_of k.arrivals ++ l) s.1 ∙ sym k.lines_are)
+    (s.2, h.lines_are ∙ ap (λ a. flat_map arrival_lines a ++ h.last) s.0 ∙ ap (λ l. flat_map arrival_lines k.arrivals ++ l) s.1 ∙ sym k.lines_are)

@@ -203,9 +203,15 @@ item_fault item text nil good none =
     none NotAMessage (inl (refl, nil, λ frame framed. frame_fault item frame text framed good (λ fault bad. none fault (inr (frame, framed, bad)))))
 
 pub ends_with_fault : EndsWithFault
-ends_with_fault bytes (inl none) pending faultless = pending (inl none)
-ends_with_fault bytes (inr (inl begun)) pending faultless = pending (inr begun)
-ends_with_fault bytes (inr (inr (inl other))) pending faultless =
-    item_fault other.item other.is_item (other.neither Heartbeat) (λ parts. other.neither (Sent parts))
-    (λ fault bad. faultless fault (inr (other.item, other.more, other.is_item, bad, other.whole)))
-ends_with_fault bytes (inr (inr (inr lost))) pending faultless = lost_faulty bytes lost (λ why bad. faultless (Bytes why) (inl (why, refl, bad)))
+ends_with_fault bytes pending begins_none faultless =
+    lost_faulty bytes
+    (record {
+      begins_none = λ more text. pending (inr (longer_open bytes more text (λ t. begun bytes [] t (sym (append-nil bytes)))));
+      has_none = λ front back e text. begun front back text e;
+    })
+    (λ why bad. faultless (Bytes why) (inl (why, refl, bad)))
+  where
+    begun : (item more : List ℕ) → IsItemWithin item → bytes ≡ item ++ more → ⊥
+    begun item more text e =
+        item_fault item text (λ nil. begins_none item more Heartbeat nil e) (λ parts message. begins_none item more (Sent parts) message e)
+        (λ fault bad. faultless fault (inr (item, more, text, bad, e)))

@@ -1,8 +1,9 @@
 //! A hex text is read by pieces, and each message in it is listed as soon as it is whole.
 
 ghost use Rattle.std.specs.Prelude.{◌≡◌, ◌<◌, ◌≤◌, ◌+◌, ◌++◌, ℕ, List, [], length, None, MatchResult};
+ghost use Rattle.std.specs.List.{flat_map};
 ghost use Rattle.event_modes.specs.Stream.{Arrival, Splits};
-ghost use Rattle.stream_listing.specs.Listing.{lines_of, PrintsListing};
+ghost use Rattle.stream_listing.specs.Listing.{arrival_lines, PrintsListing};
 ghost use Rattle.stream_listing.specs.Decoding.{IsHeld, StopsAt, Lists, IsLast, IsLastAtEnd, PrintsLast};
 
 use crate::hex_text::{HexFault, HexText};
@@ -117,7 +118,7 @@ impl<A: Allocator + Copy> Decoder<A> {
         requires { self.old.feed.fault ≡ None }
         ensures lines { (arrivals : List Arrival) × (held : List ℕ)
             × Splits (self.old.feed.held ++ self.old.bytes.items) arrivals held
-            × (self.new.lines.items ≡ self.old.lines.items ++ lines_of arrivals)
+            × (self.new.lines.items ≡ self.old.lines.items ++ flat_map arrival_lines arrivals)
             × MatchResult result (λ _. IsHeld [] held [] self.new.feed)
             (λ stop. StopsAt stop [] held) }
         ensures hex { self.new.hex ≡ self.old.hex }
@@ -156,7 +157,7 @@ fn list_arrivals<A: Allocator + Copy>(
 ) -> Result<(), Stop>
     ensures { (arrivals : List Arrival) × (held : List ℕ)
         × Splits feed.old.held arrivals held
-        × (lines.new.items ≡ lines.old.items ++ lines_of arrivals)
+        × (lines.new.items ≡ lines.old.items ++ flat_map arrival_lines arrivals)
         × MatchResult result (λ _. IsHeld [] held [] feed.new)
         (λ stop. StopsAt stop [] held) }
 {

@@ -1,8 +1,8 @@
 //! Hex text that comes in pieces.
 
-ghost use Rattle.std.specs.Prelude.{◌≡◌, ◌++◌, ◌∷◌, [], ℕ, List, IsTrue, ◌↔◌, IsErr, IfSome, IfNone, IfOk, IfErr, OnOk, OnErr};
+ghost use Rattle.std.specs.Prelude.{◌≡◌, ◌++◌, ◌∷◌, [], ℕ, List, take, IsTrue, ◌↔◌, IsErr, IfSome, IfNone, IfOk, IfErr, OnOk, OnErr};
 ghost use Rattle.std.specs.Bool.{OnFalse};
-ghost use Rattle.stream_listing.specs.HexText.{digits_of, AreDigitsUpTo, IsBroken, Breaks};
+ghost use Rattle.stream_listing.specs.HexText.{digits_of, AreDigitsUpTo, Breaks};
 ghost use Rattle.std.specs.Option.{option_to_list};
 ghost use Rattle.hex.specs.Hex.{decode_of};
 
@@ -56,7 +56,7 @@ impl HexText {
     /// Whether each digit so far is part of a byte.
     pub fn is_whole(&self) -> bool
         ensures whole { IsTrue result ↔ (self.now ≡ []) }
-        ensures broken { OnFalse result (IsBroken self.now) }
+        ensures broken { OnFalse result (IsErr (decode_of (take 2 self.now))) }
     {
         self.high.is_none()
     }

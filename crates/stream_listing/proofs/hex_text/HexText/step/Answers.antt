@@ -1,8 +1,13 @@
 use Rattle.std.proofs.Common.{◌≡◌, ◌++◌, ◌∷◌, [], sym, subst, rules}
 use Rattle.std.specs.Option.{option_to_list}
 use Rattle.stream_listing.specs.HexText.{AreDigitsUpTo, Breaks}
-use Rattle.stream_listing.proofs.HexSteps.{two_digits, two_broken}
+use Rattle.stream_listing.proofs.HexSteps.{AreDigitsUpTo-none, two_digits, two_broken}
 use Rattle.stream_listing.proofs.hex_text.HexText.step.Goals as goal
+
+pub returns-in_default-clause-ok : goal.returns-in_default-clause-ok
+returns-in_default-clause-ok c =
+    let none : c.args.self.now ≡ [] = search rules in
+    subst (λ l. AreDigitsUpTo (l ++ c.args.digit ∷ []) [] (c.args.digit ∷ [])) (sym none) (AreDigitsUpTo-none (c.args.digit ∷ []))
 
 pub returns-in_default-byte_of-clause-broken : goal.returns-in_default-byte_of-clause-broken
 returns-in_default-byte_of-clause-broken c =
