@@ -1,13 +1,18 @@
 -- That words are one step's at most.
-use Rattle.std.proofs.Common.{◌≡◌, ℕ, ◌==◌, ◌||◌, not, Bool, true, false, List, [], ◌∷◌, ◌++◌, map, take, drop, get_or, slice_get, Option, Some, if◌then◌else◌, codes, refl, sym, ap, subst, ◌∙◌}
+use Rattle.std.proofs.Common.{◌≡◌, ℕ, ◌==◌, ◌||◌, not, Bool, true, false, List, [], ◌∷◌, ◌++◌, map, take, drop, get_or, slice_get, Option, Some, Ok, if◌then◌else◌, codes, refl, sym, ap, subst, ◌∙◌}
 use Rattle.std.specs.List.{AllZip, list_any, slice_split}
 use Rattle.std.specs.Str.{bytes_eq}
 use Rattle.conf_values.specs.Numbers.{number_of}
+use Rattle.hex.specs.Hex.{decode_of}
 use Rattle.step_lines.specs.declared.step.ChunkName.{ChunkName}
 use Rattle.step_lines.specs.declared.step.Step.{Step}
 use Rattle.step_lines.specs.declared.step.Step.TheVariants as step
-use Rattle.step_lines.specs.StepLines.{IsNumber, IsChunkName, IsHexOf, IsStepOf, SaysNothing, chunk_words, counted_words}
+use Rattle.step_lines.specs.StepLines.{IsNumber, AreNumbers, AreOfChunk, IsStepOf, SaysNothing, chunk_words, counted_words}
 use Rattle.step_lines.specs.Laws.{Content, numbered, numbers_of, content}
+
+-- the word spells the entry in hex
+abbrev IsHexOf : List ℕ → List ℕ → Type 0
+IsHexOf word entry = decode_of word ≡ Ok entry
 
 abbrev is_send : List ℕ → Bool
 is_send name = bytes_eq name (codes "send")
@@ -46,26 +51,31 @@ record Reading (words : List (List ℕ)) (c : Content) : Type 0 where
   tag : tag_in words ≡ c.tag
   entries : AllZip IsHexOf (texts_in words) c.entries
 
-number_line : (name word : List ℕ) (n : ℕ) (words : List (List ℕ)) → words ≡ name ∷ word ∷ [] → IsNumber word n → is_send name ≡ false → has_chunk name ≡ false → Reading words (numbered name (n ∷ []))
-number_line name word n words e is no_send no_chunk = subst (λ w. Reading w (numbered name (n ∷ []))) (sym e) (record {
+-- words that spell numbers, read
+all_read : (words : List (List ℕ)) (numbers : List ℕ) → AllZip IsNumber words numbers → map number_of words ≡ map Some numbers
+all_read [] [] h = refl
+all_read [] (n ∷ numbers) h = absurd h
+all_read (word ∷ words) [] h = absurd h
+all_read (word ∷ words) (n ∷ numbers) h = let first = h.0 in let rest = all_read words numbers h.1 in cc
+
+all_zip_append : (words more : List (List ℕ)) (numbers others : List ℕ) → AllZip IsNumber words numbers → AllZip IsNumber more others → AllZip IsNumber (words ++ more) (numbers ++ others)
+all_zip_append [] more [] others h k = k
+all_zip_append [] more (n ∷ numbers) others h k = absurd h
+all_zip_append (word ∷ words) more [] others h k = absurd h
+all_zip_append (word ∷ words) more (n ∷ numbers) others h k = (h.0, all_zip_append words more numbers others h.1 k)
+
+numbers_line : (name : List ℕ) (words : List (List ℕ)) (numbers : List ℕ) → AreNumbers name words numbers → is_send name ≡ false → has_chunk name ≡ false → Reading words (numbered name numbers)
+numbers_line name words numbers h no_send no_chunk = subst (λ w. Reading w (numbered name numbers)) (sym h.1) (record {
   word = refl;
-  numbers = rw (no_send, no_chunk) (ap (λ m. m ∷ []) is);
+  numbers = rw (no_send, no_chunk) (all_read h.0 numbers h.2);
   tag = rw no_send;
   entries = rw no_send tt;
 })
 
-chunk_line : (name word : List ℕ) (chunk : ChunkName) (words : List (List ℕ)) → words ≡ name ∷ word ∷ [] → IsChunkName word chunk → is_send name ≡ false → has_chunk name ≡ true → Reading words (numbered name (numbers_of chunk))
-chunk_line name word chunk words e is no_send some_chunk = subst (λ w. Reading w (numbered name (numbers_of chunk))) (sym e) (record {
+chunk_line : (name : List ℕ) (words : List (List ℕ)) (chunk : ChunkName) (numbers : List ℕ) → AreOfChunk name words chunk numbers → is_send name ≡ false → has_chunk name ≡ true → Reading words (numbered name (numbers_of chunk ++ numbers))
+chunk_line name words chunk numbers h no_send some_chunk = subst (λ w. Reading w (numbered name (numbers_of chunk ++ numbers))) (sym h.2) (record {
   word = refl;
-  numbers = rw (no_send, some_chunk, is.are, is.relay_is, is.buffer_is, is.serial_is);
-  tag = rw no_send;
-  entries = rw no_send tt;
-})
-
-counted_line : (name word count : List ℕ) (chunk : ChunkName) (n : ℕ) (words : List (List ℕ)) → words ≡ name ∷ word ∷ count ∷ [] → IsChunkName word chunk → IsNumber count n → is_send name ≡ false → has_chunk name ≡ true → Reading words (numbered name (numbers_of chunk ++ n ∷ []))
-counted_line name word count chunk n words e is counts no_send some_chunk = subst (λ w. Reading w (numbered name (numbers_of chunk ++ n ∷ []))) (sym e) (record {
-  word = refl;
-  numbers = rw (no_send, some_chunk, is.are, is.relay_is, is.buffer_is, is.serial_is, counts);
+  numbers = rw (no_send, some_chunk) (all_read (slice_split (λ b. b == 47) h.0 ++ h.1) (numbers_of chunk ++ numbers) (all_zip_append (slice_split (λ b. b == 47) h.0) h.1 (numbers_of chunk) numbers h.3 h.4));
   tag = rw no_send;
   entries = rw no_send tt;
 })
@@ -77,33 +87,23 @@ reading {A} words (step.Send client tag entries) h = subst (λ w. Reading w (con
   tag = refl;
   entries = h.5;
 })
-reading words (step.Begin message) h = number_line _ h.0 message words h.1 h.2 refl refl
-reading {A} words (step.Append delivery buffer serial) h = subst (λ w. Reading w (content {A = A} (step.Append delivery buffer serial))) (sym h.3) (record {
-  word = refl;
-  numbers = rw (h.4, h.5, h.6);
-  tag = refl;
-  entries = tt;
-})
-reading words (step.Ack delivery) h = number_line _ h.0 delivery words h.1 h.2 refl refl
-reading words (step.Abandon delivery) h = number_line _ h.0 delivery words h.1 h.2 refl refl
-reading words (step.Foreign message) h = number_line _ h.0 message words h.1 h.2 refl refl
-reading words (step.Enqueue chunk) h = chunk_line _ h.0 chunk words h.1 h.2 refl refl
-reading words (step.Claim chunk) h = chunk_line _ h.0 chunk words h.1 h.2 refl refl
-reading words (step.Back chunk) h = chunk_line _ h.0 chunk words h.1 h.2 refl refl
-reading words (step.Forward chunk server) h = counted_line _ h.0 h.1 chunk server words h.2 h.3 h.4 refl refl
-reading words (step.Seen chunk) h = chunk_line _ h.0 chunk words h.1 h.2 refl refl
-reading words (step.Write chunk) h = chunk_line _ h.0 chunk words h.1 h.2 refl refl
-reading words (step.Part chunk count) h = counted_line _ h.0 h.1 chunk count words h.2 h.3 h.4 refl refl
-reading words (step.Purge chunk) h = chunk_line _ h.0 chunk words h.1 h.2 refl refl
-reading words (step.Done chunk) h = chunk_line _ h.0 chunk words h.1 h.2 refl refl
-reading words (step.Discard chunk) h = chunk_line _ h.0 chunk words h.1 h.2 refl refl
-reading {A} words (step.Oldest relay buffer) h = subst (λ w. Reading w (content {A = A} (step.Oldest relay buffer))) (sym h.2) (record {
-  word = refl;
-  numbers = rw (h.3, h.4);
-  tag = refl;
-  entries = tt;
-})
-reading words (step.Restart relay) h = number_line _ h.0 relay words h.1 h.2 refl refl
+reading words (step.Begin message) h = numbers_line _ words _ h refl refl
+reading words (step.Append delivery buffer serial) h = numbers_line _ words _ h refl refl
+reading words (step.Ack delivery) h = numbers_line _ words _ h refl refl
+reading words (step.Abandon delivery) h = numbers_line _ words _ h refl refl
+reading words (step.Foreign message) h = numbers_line _ words _ h refl refl
+reading words (step.Enqueue chunk) h = chunk_line _ words chunk [] h refl refl
+reading words (step.Claim chunk) h = chunk_line _ words chunk [] h refl refl
+reading words (step.Back chunk) h = chunk_line _ words chunk [] h refl refl
+reading words (step.Forward chunk server) h = chunk_line _ words chunk (server ∷ []) h refl refl
+reading words (step.Seen chunk) h = chunk_line _ words chunk [] h refl refl
+reading words (step.Write chunk) h = chunk_line _ words chunk [] h refl refl
+reading words (step.Part chunk count) h = chunk_line _ words chunk (count ∷ []) h refl refl
+reading words (step.Purge chunk) h = chunk_line _ words chunk [] h refl refl
+reading words (step.Done chunk) h = chunk_line _ words chunk [] h refl refl
+reading words (step.Discard chunk) h = chunk_line _ words chunk [] h refl refl
+reading words (step.Oldest relay buffer) h = numbers_line _ words _ h refl refl
+reading words (step.Restart relay) h = numbers_line _ words _ h refl refl
 
 same_numbers : (xs ys : List ℕ) → map Some xs ≡ map Some ys → xs ≡ ys
 same_numbers [] [] e = refl

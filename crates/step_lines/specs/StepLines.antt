@@ -28,63 +28,47 @@ words_of line = filter (λ word. not (length word == 0)) (slice_split is_blank l
 abbrev pub IsNumber : List ℕ → ℕ → Type 0
 IsNumber word n = number_of word ≡ Some n
 
--- The parts are three, and spell the relay, the buffer and the serial of the name.
-pub record AreNameParts (parts : List (List ℕ)) (name : ChunkName) : Type 0 where
-  pub relay : List ℕ
-  pub buffer : List ℕ
-  pub serial : List ℕ
-  pub are : parts ≡ relay ∷ buffer ∷ serial ∷ []
-  pub relay_is : IsNumber relay name.relay
-  pub buffer_is : IsNumber buffer name.buffer
-  pub serial_is : IsNumber serial name.serial
-
 -- The word is RELAY/BUFFER/SERIAL, in numbers.
 abbrev pub IsChunkName : List ℕ → ChunkName → Type 0
-IsChunkName word name = AreNameParts (slice_split (λ b. b == 47) word) name
+IsChunkName word name = AllZip IsNumber (slice_split (λ b. b == 47) word)
+    (name.relay ∷ name.buffer ∷ name.serial ∷ [])
 
--- The word spells the entry in hex, in digits of either case.
-abbrev pub IsHexOf : List ℕ → List ℕ → Type 0
-IsHexOf word entry = decode_of word ≡ Ok entry
+-- The fields are this word, and others that are these numbers.
+abbrev pub AreNumbers : List ℕ → List (List ℕ) → List ℕ → Type 0
+AreNumbers name words numbers =
+    (fields : List (List ℕ)) × (words ≡ name ∷ fields) × AllZip IsNumber fields numbers
 
--- The fields are this word, and one that is a number.
-abbrev pub IsOneNumber : List ℕ → List (List ℕ) → ℕ → Type 0
-IsOneNumber name words n = (word : List ℕ) × (words ≡ name ∷ word ∷ []) × IsNumber word n
+-- The fields are this word, one that names the chunk, and others that are these numbers.
+abbrev pub AreOfChunk : List ℕ → List (List ℕ) → ChunkName → List ℕ → Type 0
+AreOfChunk name words chunk numbers =
+    (word : List ℕ) × (fields : List (List ℕ)) × (words ≡ name ∷ word ∷ fields)
+    × IsChunkName word chunk × AllZip IsNumber fields numbers
 
--- The fields are this word, and one that names a chunk.
-abbrev pub IsOneChunk : List ℕ → List (List ℕ) → ChunkName → Type 0
-IsOneChunk name words chunk = (word : List ℕ) × (words ≡ name ∷ word ∷ []) × IsChunkName word chunk
-
--- The fields are this word, one that names a chunk, and one that is a number.
-abbrev pub IsChunkAndNumber : List ℕ → List (List ℕ) → ChunkName → ℕ → Type 0
-IsChunkAndNumber name words chunk n =
-    (word : List ℕ) × (number : List ℕ) × (words ≡ name ∷ word ∷ number ∷ [])
-    × IsChunkName word chunk × IsNumber number n
-
--- The fields are those of the step.
+-- The fields are those of the step. Each entry is spelled in hex, in digits of either case.
 abbrev pub IsStepOf : {A : Type 0} → List (List ℕ) → Step A → Type 0
 IsStepOf words (step.Send client tag entries) = (number : List ℕ) × (texts : List (List ℕ))
     × (words ≡ codes "send" ∷ number ∷ tag ∷ texts) × IsNumber number client
-    × (length tag ≤ most_tag_bytes) × AllZip IsHexOf texts (texts_of entries.items)
-IsStepOf words (step.Begin message) = IsOneNumber (codes "begin") words message
-IsStepOf words (step.Append delivery buffer serial) = (d : List ℕ) × (b : List ℕ) × (s : List ℕ)
-    × (words ≡ codes "append" ∷ d ∷ b ∷ s ∷ []) × IsNumber d delivery × IsNumber b buffer
-    × IsNumber s serial
-IsStepOf words (step.Ack delivery) = IsOneNumber (codes "ack") words delivery
-IsStepOf words (step.Abandon delivery) = IsOneNumber (codes "abandon") words delivery
-IsStepOf words (step.Foreign message) = IsOneNumber (codes "foreign") words message
-IsStepOf words (step.Enqueue chunk) = IsOneChunk (codes "enqueue") words chunk
-IsStepOf words (step.Claim chunk) = IsOneChunk (codes "claim") words chunk
-IsStepOf words (step.Back chunk) = IsOneChunk (codes "back") words chunk
-IsStepOf words (step.Forward chunk server) = IsChunkAndNumber (codes "forward") words chunk server
-IsStepOf words (step.Seen chunk) = IsOneChunk (codes "seen") words chunk
-IsStepOf words (step.Write chunk) = IsOneChunk (codes "write") words chunk
-IsStepOf words (step.Part chunk count) = IsChunkAndNumber (codes "part") words chunk count
-IsStepOf words (step.Purge chunk) = IsOneChunk (codes "purge") words chunk
-IsStepOf words (step.Done chunk) = IsOneChunk (codes "done") words chunk
-IsStepOf words (step.Discard chunk) = IsOneChunk (codes "discard") words chunk
-IsStepOf words (step.Oldest relay buffer) = (r : List ℕ) × (b : List ℕ)
-    × (words ≡ codes "oldest" ∷ r ∷ b ∷ []) × IsNumber r relay × IsNumber b buffer
-IsStepOf words (step.Restart relay) = IsOneNumber (codes "restart") words relay
+    × (length tag ≤ most_tag_bytes)
+    × AllZip (λ word entry. decode_of word ≡ Ok entry) texts (texts_of entries.items)
+IsStepOf words (step.Begin message) = AreNumbers (codes "begin") words (message ∷ [])
+IsStepOf words (step.Append delivery buffer serial) = AreNumbers (codes "append") words
+    (delivery ∷ buffer ∷ serial ∷ [])
+IsStepOf words (step.Ack delivery) = AreNumbers (codes "ack") words (delivery ∷ [])
+IsStepOf words (step.Abandon delivery) = AreNumbers (codes "abandon") words (delivery ∷ [])
+IsStepOf words (step.Foreign message) = AreNumbers (codes "foreign") words (message ∷ [])
+IsStepOf words (step.Enqueue chunk) = AreOfChunk (codes "enqueue") words chunk []
+IsStepOf words (step.Claim chunk) = AreOfChunk (codes "claim") words chunk []
+IsStepOf words (step.Back chunk) = AreOfChunk (codes "back") words chunk []
+IsStepOf words (step.Forward chunk server) = AreOfChunk (codes "forward") words chunk (server ∷ [])
+IsStepOf words (step.Seen chunk) = AreOfChunk (codes "seen") words chunk []
+IsStepOf words (step.Write chunk) = AreOfChunk (codes "write") words chunk []
+IsStepOf words (step.Part chunk count) = AreOfChunk (codes "part") words chunk (count ∷ [])
+IsStepOf words (step.Purge chunk) = AreOfChunk (codes "purge") words chunk []
+IsStepOf words (step.Done chunk) = AreOfChunk (codes "done") words chunk []
+IsStepOf words (step.Discard chunk) = AreOfChunk (codes "discard") words chunk []
+IsStepOf words (step.Oldest relay buffer) = AreNumbers (codes "oldest") words
+    (relay ∷ buffer ∷ [])
+IsStepOf words (step.Restart relay) = AreNumbers (codes "restart") words (relay ∷ [])
 
 -- The fields are those of no step.
 abbrev pub NoStep : (A : Type 0) → List (List ℕ) → Type 0

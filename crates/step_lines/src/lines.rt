@@ -1,10 +1,12 @@
 //! Steps are read from the lines of a text.
 
-ghost use Rattle.std.specs.Prelude.{◌≡◌, [], ◌∷◌, ℕ, codes, map, not, length, List, ◌==◌, IfOk, IfErr, IfSome, IfNone, IsTrue, ◌↔◌};
+ghost use Rattle.std.specs.Prelude.{Ok as Decoded, ◌≡◌, [], ◌∷◌, ℕ, codes, map, not, length, List, ◌==◌, IfOk, IfErr, IfSome, IfNone, IsTrue, ◌↔◌};
 ghost use Rattle.std.specs.List.{AllZip, slice_split, filter};
+ghost use Rattle.hex.specs.Hex.{decode_of};
+ghost use Rattle.step_lines.specs.Laws.{numbers_of};
 ghost use Rattle.step_lines.specs.Texts.{texts_of};
 ghost use Rattle.step_lines.specs.declared.step.ChunkName.{ChunkName as TheName};
-ghost use Rattle.step_lines.specs.StepLines.{IsHexOf, IsNumber, AreNameParts, IsChunkName, IsStepOf, NoStep, IsNoneOf, number_words, chunk_words, counted_words, SaysNothing, IsSaid, words_of, is_blank as blank};
+ghost use Rattle.step_lines.specs.StepLines.{IsNumber, IsChunkName, IsStepOf, NoStep, IsNoneOf, number_words, chunk_words, counted_words, SaysNothing, IsSaid, words_of, is_blank as blank};
 
 use crate::step::{ChunkName, Step};
 use conf_values::whole_number;
@@ -83,9 +85,10 @@ fn chunk_name<A: Allocator + Copy>(alloc: A, word: &[u8]) -> Result<Option<Chunk
 
 // The chunk of these parts of a name.
 fn name_of(parts: &[&[u8]]) -> Option<ChunkName>
-    ensures name { IfSome result (AreNameParts (map (λ part. part.now) parts.now)) }
-    ensures none { IfNone result
-        ((name : TheName) → ¬ (AreNameParts (map (λ part. part.now) parts.now) name)) }
+    ensures name { IfSome result
+        (λ name. AllZip IsNumber (map (λ part. part.now) parts.now) (numbers_of name)) }
+    ensures none { IfNone result ((name : TheName)
+        → ¬ (AllZip IsNumber (map (λ part. part.now) parts.now) (numbers_of name))) }
 {
     match parts {
         [relay, buffer, serial] => name_of_three(relay, buffer, serial),
@@ -95,7 +98,8 @@ fn name_of(parts: &[&[u8]]) -> Option<ChunkName>
 
 // The chunk of these three numbers.
 fn name_of_three(relay: &[u8], buffer: &[u8], serial: &[u8]) -> Option<ChunkName>
-    ensures name { IfSome result (AreNameParts (relay.now ∷ buffer.now ∷ serial.now ∷ [])) }
+    ensures name { IfSome result (λ name. AllZip IsNumber
+        (relay.now ∷ buffer.now ∷ serial.now ∷ []) (numbers_of name)) }
     ensures none { IfNone result
         ((name : TheName) → IsNumber relay.now name.relay → IsNumber buffer.now name.buffer
         → ¬ (IsNumber serial.now name.serial)) }
@@ -109,9 +113,10 @@ fn name_of_three(relay: &[u8], buffer: &[u8], serial: &[u8]) -> Option<ChunkName
 
 // The entry that the word spells in hex, if it spells one.
 fn entry_of<A: Allocator>(alloc: A, word: &[u8]) -> Result<Option<Vec<u8, A>>, AllocError>
-    ensures entry { IfOk result (λ found. IfSome found (λ entry. IsHexOf word.now entry.items)) }
+    ensures entry { IfOk result
+        (λ found. IfSome found (λ entry. decode_of word.now ≡ Decoded entry.items)) }
     ensures none { IfOk result
-        (λ found. IfNone found ((entry : List ℕ) → ¬ (IsHexOf word.now entry))) }
+        (λ found. IfNone found ((entry : List ℕ) → ¬ (decode_of word.now ≡ Decoded entry))) }
 {
     match hex::decode(alloc, word) {
         Ok(entry) => Ok(Some(entry)),
@@ -129,11 +134,13 @@ fn entries_of<A: Allocator + Copy>(
 ) -> Result<Option<Vec<Vec<u8, A>, A>>, AllocError>
     ensures entries { IfOk result
         (λ found. IfSome found
-        (λ entries. AllZip IsHexOf (map (λ word. word.now) words.now) (texts_of entries.items))) }
+        (λ entries. AllZip (λ word entry. decode_of word ≡ Decoded entry)
+        (map (λ word. word.now) words.now) (texts_of entries.items))) }
     ensures none { IfOk result
         (λ found. IfNone found
         ((entries : List (List ℕ))
-        → ¬ (AllZip IsHexOf (map (λ word. word.now) words.now) entries))) }
+        → ¬ (AllZip (λ word entry. decode_of word ≡ Decoded entry)
+        (map (λ word. word.now) words.now) entries))) }
 {
     let mut entries = Vec::new(alloc);
     for word in words {
