@@ -3,45 +3,26 @@
 use crate::devices::{Failing, Stopping};
 use crate::parts::{Part, Shared, in_memory};
 use crate::script::WIDE;
-use crate::shelves::{
-    ENTRY, LEAF, Shelf, buffer_in, dropped, eager_in, enqueue, is_live, shelf_in, stored,
-};
+use crate::shelves::{ENTRY, LEAF, Shelf, dropped, eager_in, enqueue, is_live, shelf_in, stored};
 use crate::sinks::{opened, written};
-use ack_receipt::{Basis, Evidence, Numbers, PurgeFault, SharedBuffer, Takes};
+use ack_receipt::{Basis, Evidence, Numbers, PurgeFault};
 use buffer_store::BufferFault;
 use disk_files::Dir;
 use sink_series::Stored;
 use std::alloc::{AllocError, Global};
 use std::sync::Wait;
 
-// What lets chunks go: what is stored in the sink `all`.
-fn takes(alloc: Global) -> Result<Takes<Global>, AllocError> {
-    Ok(Takes {
-        basis: Basis::Stored(Vec::from_slice(alloc, b"all")?),
-        expires: false,
-        drops: false,
-    })
-}
-
-// A shared buffer in this folder, whose chunks go by that.
-fn by<D: Dir + Drop>(alloc: Global, dir: D, takes: Takes<Global>) -> Result<Shelf<D>, BufferFault> {
-    match buffer_in(alloc, dir, WIDE) {
-        Ok(buffer) => Ok(SharedBuffer::new(alloc, buffer, LEAF, takes)),
-        Err(fault) => Err(fault),
-    }
-}
-
-fn by_sink<D: Dir + Drop>(alloc: Global, dir: D) -> Result<Shelf<D>, BufferFault> {
-    match takes(alloc) {
-        Ok(takes) => by(alloc, dir, takes),
-        Err(AllocError) => Err(BufferFault::Memory),
+// A shared buffer in this folder, whose chunks go by what is stored in the sink `all`.
+fn by_sink<D: Dir + Drop>(alloc: Global, dir: D) -> Option<Shelf<D>> {
+    match Vec::from_slice(alloc, b"all") {
+        Ok(path) => eager_in(alloc, dir, Basis::Stored(path)),
+        Err(AllocError) => None,
     }
 }
 
 // Stores one message there, and queues its chunk.
-fn queued<R: Wait, D: Dir>(alloc: Global, rt: &R, shelf: &Shelf<D>) -> Result<(), BufferFault> {
-    let _ = stored(alloc, rt, shelf, &mut Numbers::new())?;
-    enqueue(rt, shelf, 0)
+fn queued<R: Wait, D: Dir>(alloc: Global, rt: &R, shelf: &Shelf<D>) -> bool {
+    stored(alloc, rt, shelf, &mut Numbers::new()).is_some() && enqueue(rt, shelf, 0)
 }
 
 // A purge of the only chunk: by these entries under this tag in the sink of this path, and why not.
@@ -119,10 +100,10 @@ fn goes<R: Wait, D: Dir + Drop, E: Stopping>(
     purges: &[Purge],
 ) -> bool {
     match by_sink(alloc, dir) {
-        Ok(shelf) => {
-            queued(alloc, rt, &shelf).is_ok() && are_answered::<R, D, E>(alloc, rt, &shelf, purges)
+        Some(shelf) => {
+            queued(alloc, rt, &shelf) && are_answered::<R, D, E>(alloc, rt, &shelf, purges)
         }
-        Err(_) => false,
+        None => false,
     }
 }
 
@@ -208,8 +189,8 @@ fn is_dropped_once<R: Wait, D: Dir>(rt: &R, shelf: &Shelf<D>) -> bool {
 /// The same of a buffer that drops.
 pub fn drops_once<R: Wait, D: Stopping>(alloc: Global, rt: &R) -> bool {
     match shelf_in(alloc, D::made(alloc), LEAF, WIDE) {
-        Ok(shelf) => queued(alloc, rt, &shelf).is_ok() && is_dropped_once(rt, &shelf),
-        Err(_) => false,
+        Some(shelf) => queued(alloc, rt, &shelf) && is_dropped_once(rt, &shelf),
+        None => false,
     }
 }
 
@@ -226,10 +207,10 @@ fn renewed_long<R: Wait, D: Dir + Drop>(
     rt: &R,
     dir: D,
 ) -> Option<Result<(), BufferFault>> {
-    let Ok(shelf) = eager_in(alloc, dir) else {
+    let Some(shelf) = eager_in(alloc, dir, Basis::Acknowledged) else {
         return None;
     };
-    if queued(alloc, rt, &shelf).is_ok() && dropped(rt, &shelf).is_ok() {
+    if queued(alloc, rt, &shelf) && dropped(rt, &shelf).is_ok() {
         Some(shelf.renew(rt))
     } else {
         None

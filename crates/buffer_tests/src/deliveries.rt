@@ -4,11 +4,11 @@ use crate::devices::Stopping;
 use crate::parts::{Part, Shared, in_memory};
 use crate::script::WIDE;
 use crate::shelves::{
-    LEAF, Refused, Shelf, begun, begun_of, dropped, enqueue, finds, message, put, shelf_in, stored,
+    LEAF, Refused, Shelf, begun, begun_of, dropped, enqueue, finds, message, put, receipt_of,
+    shelf_in, stored,
 };
 use ack_receipt::{BookFault, Delivery, Leaf, Numbers, Reserved, Stub};
 use buffer_state::Limits;
-use buffer_store::BufferFault;
 use disk_files::Dir;
 use std::alloc::Global;
 use std::sync::Wait;
@@ -18,39 +18,38 @@ const OTHER: Leaf = Leaf {
     buffer: 1,
 };
 
-// What is left of a delivery that is stored twice, and of the receipt that it didn't take.
+// What is left of this delivery, which is stored twice, and of the receipt that it didn't take.
 fn twice<R: Wait, D: Dir>(
-    alloc: Global,
     rt: &R,
     shelf: &Shelf<D>,
-) -> Result<(Stub<Global>, Option<Refused>), BufferFault> {
-    let delivery = begun(alloc, &mut Numbers::new(), &[LEAF])?;
+    delivery: Delivery<Global>,
+) -> (Stub<Global>, Option<Refused>) {
     let (delivery, _) = put(rt, shelf, delivery);
     let (delivery, refused) = put(rt, shelf, delivery);
-    Ok((delivery.abandon(), refused))
+    (delivery.abandon(), refused)
 }
 
 // Whether the second isn't taken, and an audit by what is left of both finds nothing.
-fn is_refused<D: Dir + Drop>(
+fn is_refused<R: Wait, D: Dir + Drop>(
     alloc: Global,
+    rt: &R,
     shelf: Shelf<D>,
-    stub: Stub<Global>,
-    refused: Option<Refused>,
+    delivery: Delivery<Global>,
 ) -> bool {
-    match refused {
-        Some((BookFault::Double, spent)) => finds(alloc, shelf, &[stub, spent], None),
+    match twice(rt, &shelf, delivery) {
+        (stub, Some((BookFault::Double, spent))) => finds(alloc, shelf, &[stub, spent], None),
         _ => false,
     }
 }
 
 /// Whether it goes so.
 pub fn is_double<R: Wait, D: Stopping>(alloc: Global, rt: &R) -> bool {
-    let Ok(shelf) = shelf_in(alloc, D::made(alloc), LEAF, WIDE) else {
+    let Some(shelf) = shelf_in(alloc, D::made(alloc), LEAF, WIDE) else {
         return false;
     };
-    match twice(alloc, rt, &shelf) {
-        Ok((stub, refused)) => is_refused(alloc, shelf, stub, refused),
-        Err(_) => false,
+    match begun(alloc, &mut Numbers::new(), LEAF, b'a', 1) {
+        Some(delivery) => is_refused(alloc, rt, shelf, delivery),
+        None => false,
     }
 }
 
@@ -67,10 +66,7 @@ fn given_to_another<R: Wait, D: Dir>(
     own: &Delivery<Global>,
     other: Delivery<Global>,
 ) -> (Option<BookFault>, Stub<Global>) {
-    if own.entries().count() == 0 {
-        return (None, other.abandon());
-    }
-    let Ok(receipt) = shelf.append(rt, own) else {
+    let Ok(receipt) = receipt_of(rt, shelf, own) else {
         return (None, other.abandon());
     };
     match other.add(receipt) {
@@ -82,34 +78,42 @@ fn given_to_another<R: Wait, D: Dir>(
     }
 }
 
-// The same of two deliveries of one message.
+// The same of this delivery and another one of its message.
 fn crossed<R: Wait, D: Dir>(
     alloc: Global,
     rt: &R,
     shelf: &Shelf<D>,
-) -> Result<(Option<BookFault>, Stub<Global>), BufferFault> {
-    let mut numbers = Numbers::new();
-    let own = begun(alloc, &mut numbers, &[LEAF])?;
-    match begun(alloc, &mut numbers, &[LEAF]) {
-        Ok(other) => {
-            let crossed = given_to_another(rt, shelf, &own, other);
-            let _ = own.abandon();
-            Ok(crossed)
-        }
-        Err(fault) => {
-            let _ = own.abandon();
-            Err(fault)
-        }
+    numbers: &mut Numbers,
+    own: &Delivery<Global>,
+) -> Option<(Option<BookFault>, Stub<Global>)> {
+    match begun(alloc, numbers, LEAF, b'a', 1) {
+        Some(other) => Some(given_to_another(rt, shelf, own, other)),
+        None => None,
     }
+}
+
+// The same of two deliveries.
+fn both_crossed<R: Wait, D: Dir>(
+    alloc: Global,
+    rt: &R,
+    shelf: &Shelf<D>,
+) -> Option<(Option<BookFault>, Stub<Global>)> {
+    let mut numbers = Numbers::new();
+    let Some(own) = begun(alloc, &mut numbers, LEAF, b'a', 1) else {
+        return None;
+    };
+    let crossed = crossed(alloc, rt, shelf, &mut numbers, &own);
+    let _ = own.abandon();
+    crossed
 }
 
 /// Whether it goes so: the receipt isn't taken, and an audit by what is left of it finds nothing.
 pub fn is_strange<R: Wait, D: Stopping>(alloc: Global, rt: &R) -> bool {
-    let Ok(shelf) = shelf_in(alloc, D::made(alloc), LEAF, WIDE) else {
+    let Some(shelf) = shelf_in(alloc, D::made(alloc), LEAF, WIDE) else {
         return false;
     };
-    match crossed(alloc, rt, &shelf) {
-        Ok((Some(BookFault::Stranger), stub)) => finds(alloc, shelf, &[stub], None),
+    match both_crossed(alloc, rt, &shelf) {
+        Some((Some(BookFault::Stranger), stub)) => finds(alloc, shelf, &[stub], None),
         _ => false,
     }
 }
@@ -128,16 +132,23 @@ fn copied<R: Wait, D: Dir>(
     wide: &Shelf<D>,
     small: &Shelf<D>,
     numbers: &mut Numbers,
-) -> Result<(bool, Stub<Global>), BufferFault> {
-    let message = message(alloc)?;
-    let mut reserved = Reserved::for_message(alloc, &message)?;
-    let delivery = begun_of(alloc, numbers, message, &[LEAF, OTHER])?;
+) -> Option<(bool, Stub<Global>)> {
+    let Some(message) = message(alloc, b'a', 1) else {
+        return None;
+    };
+    let Ok(mut reserved) = Reserved::for_message(alloc, &message) else {
+        return None;
+    };
+    let Some(delivery) = begun_of(alloc, numbers, message, &[LEAF, OTHER]) else {
+        return None;
+    };
     let (delivery, _) = put(rt, wide, delivery);
     let (delivery, _) = put(rt, small, delivery);
-    match delivery.acknowledge(&mut reserved) {
-        Ok(stub) => Ok((reserved.answer().is_some(), stub)),
-        Err((_, delivery)) => Ok((reserved.answer().is_some(), delivery.abandon())),
-    }
+    let stub = match delivery.acknowledge(&mut reserved) {
+        Ok(stub) => stub,
+        Err((_, delivery)) => delivery.abandon(),
+    };
+    Some((reserved.answer().is_some(), stub))
 }
 
 // What settling answers to this stub.
@@ -163,8 +174,8 @@ fn second_of<R: Wait, D: Dir>(
     rt: &R,
     longer: &Shelf<D>,
     numbers: &mut Numbers,
-) -> Result<Stub<Global>, BufferFault> {
-    let _ = stored(alloc, rt, longer, numbers)?;
+) -> Option<Stub<Global>> {
+    let _ = stored(alloc, rt, longer, numbers);
     stored(alloc, rt, longer, numbers)
 }
 
@@ -180,7 +191,7 @@ fn are_settled<R: Wait, D: Dir + Drop>(
     let own = stored(alloc, rt, &shelf, &mut numbers);
     let stranger = second_of(alloc, rt, &longer, &mut numbers);
     match (own, stranger) {
-        (Ok(own), Ok(stranger)) => {
+        (Some(own), Some(stranger)) => {
             let is_once = is_settled_once(rt, &shelf, &stranger, &own);
             let is_whole = finds(alloc, shelf, &[], None);
             let is_open = finds(alloc, longer, &[stranger], Some(BookFault::Missing));
@@ -196,7 +207,7 @@ pub fn stubs_are_settled<R: Wait, D: Stopping>(alloc: Global, rt: &R) -> bool {
         shelf_in(alloc, D::made(alloc), LEAF, WIDE),
         shelf_in(alloc, D::made(alloc), LEAF, WIDE),
     ) {
-        (Ok(shelf), Ok(longer)) => are_settled(alloc, rt, shelf, longer),
+        (Some(shelf), Some(longer)) => are_settled(alloc, rt, shelf, longer),
         _ => false,
     }
 }
@@ -222,7 +233,7 @@ fn filled<R: Wait, D: Dir>(
 ) -> Option<Stub<Global>> {
     let stub = stored(alloc, rt, small, numbers);
     match (enqueue(rt, small, 0), stub) {
-        (Ok(()), Ok(stub)) => Some(stub),
+        (true, Some(stub)) => Some(stub),
         _ => None,
     }
 }
@@ -237,14 +248,8 @@ fn copied_so<R: Wait, D: Dir>(
     answered: bool,
 ) -> Option<Stub<Global>> {
     match copied(alloc, rt, wide, small, numbers) {
-        Ok((is_answered, stub)) => {
-            if is_answered == answered {
-                Some(stub)
-            } else {
-                None
-            }
-        }
-        Err(_) => None,
+        Some((is_answered, stub)) if is_answered == answered => Some(stub),
+        _ => None,
     }
 }
 
@@ -300,7 +305,7 @@ pub fn copy_waits<R: Wait, D: Stopping>(alloc: Global, rt: &R) -> bool {
         shelf_in(alloc, D::made(alloc), LEAF, WIDE),
         shelf_in(alloc, D::made(alloc), OTHER, SMALL),
     ) {
-        (Ok(wide), Ok(small)) => waits(alloc, rt, wide, small),
+        (Some(wide), Some(small)) => waits(alloc, rt, wide, small),
         _ => false,
     }
 }

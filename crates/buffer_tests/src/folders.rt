@@ -1,6 +1,6 @@
-//! Folders: what a stop leaves, what a device fails, and folders of the system.
+//! Folders: what a stop leaves, and folders of the system.
 
-use crate::devices::{Failing, Stopping};
+use crate::devices::Stopping;
 use crate::parts::{Part, in_memory};
 use crate::real::{Real, are_real, on_disk};
 use disk_files::{Dir, DirError, FileName, FileNo, Keep, Writing};
@@ -40,8 +40,7 @@ fn reads_back<D: Dir>(dir: &mut D, name: &[u8]) -> Result<bool, DirError> {
     Ok(length == 4 && read == 3 && into == [98, 99, 100, 9])
 }
 
-// Whether each call that touches the device goes well, once, the append twice, and the opening
-// wherever a file is to be open, on a file of this name.
+// Whether each call goes well on a file of this name.
 fn takes_each_call<D: Dir>(alloc: Global, dir: &mut D, name: &[u8]) -> bool {
     write_new(dir, name).is_ok()
         && append(dir, name, b"cd", Writing::Through).is_ok()
@@ -50,8 +49,6 @@ fn takes_each_call<D: Dir>(alloc: Global, dir: &mut D, name: &[u8]) -> bool {
         && reads_back(dir, name) == Ok(true)
         && remove(dir, name).is_ok()
 }
-
-const CALLS: u64 = 12;
 
 /// Adds a file of this name and these bytes.
 pub fn put_file<D: Dir>(dir: &mut D, name: &[u8], bytes: &[u8]) -> Result<(), DirError> {
@@ -270,49 +267,8 @@ fn what_a_stop_leaves(rt: HostRuntime) {
     assert!(rt; in_memory(&rt, rt.alloc(), Part::Stops));
 }
 
-// Whether these calls fail, once and again, and in a third turn.
-fn turns<D: Dir>(alloc: Global, dir: &mut D) -> [bool; 3] {
-    let first = !takes_each_call(alloc, dir, b"a");
-    let second = !takes_each_call(alloc, dir, b"b");
-    [first, second, !takes_each_call(alloc, dir, b"c")]
-}
-
-// Whether a device fails from a call on; the folder on it doesn't.
-fn fails_past<D: Stopping>(alloc: Global, passes: u64) -> bool {
-    let mut device = D::made(alloc).on_device(Failing::Past(passes));
-    let failed = turns(alloc, &mut device);
-    let is_sound = is_sound(alloc, D::off_device(device));
-    failed == [passes < CALLS, true, true] && is_sound
-}
-
-fn is_sound<D: Dir + Drop>(alloc: Global, dir: D) -> bool {
-    let mut dir = dir;
-    takes_each_call(alloc, &mut dir, b"d")
-}
-
-// Whether a device fails one call.
-fn fails_at<D: Stopping>(alloc: Global, passes: u64) -> bool {
-    let mut device = D::made(alloc).on_device(Failing::At(passes));
-    turns(alloc, &mut device) == [passes < CALLS, passes >= CALLS, false] && faults_of(&device) == 1
-}
-
 fn faults_of<D: Dir>(dir: &D) -> u64 {
     dir.faults()
-}
-
-/// Whether devices fail so behind each number of calls.
-pub fn are_devices<D: Stopping>(alloc: Global) -> bool {
-    for passes in 0..=CALLS {
-        if !fails_past::<D>(alloc, passes) || !fails_at::<D>(alloc, passes) {
-            return false;
-        }
-    }
-    true
-}
-
-#[test]
-fn fuse_fails_one_call_or_all_later_ones(rt: HostRuntime) {
-    assert!(rt; in_memory(&rt, rt.alloc(), Part::Devices));
 }
 
 // Names are taken for good, and each refusal is counted.

@@ -1,5 +1,5 @@
-//! Tests of folders and what is kept in them: numbered files, a sink's files, a buffer with its
-//! journal's records, and shared buffers with receipts, pendings, claims and audits of their books.
+//! Tests of folders and what is kept in them: a sink's files, a buffer with its journal's records, and
+//! shared buffers with receipts, pendings, claims and audits of their books.
 #![tactic(auto)]
 
 #[cfg(test)]
@@ -14,8 +14,6 @@ mod deliveries;
 mod devices;
 #[cfg(test)]
 mod folders;
-#[cfg(test)]
-mod numbering;
 #[cfg(test)]
 mod outlines;
 #[cfg(test)]

@@ -1,8 +1,8 @@
 //! Journals that come by pieces, and where their entries lie.
 
 use buffer_state::Stage;
-use chunk_journal::{Extent, Outline, Outlined, Places, ReplayError};
-use std::alloc::{AllocError, Global};
+use chunk_journal::{Extent, Outline, Outlined, ReplayError};
+use std::alloc::Global;
 
 // Seal 0, Append 0 of tag a with one entry, Queue 0.
 static JOURNAL: [u8; 49] = [
@@ -120,22 +120,9 @@ fn is_no_seal(alloc: Global) -> bool {
     fails(alloc, unsealed, 5, ReplayError::NotSealed)
 }
 
-// Whether a kind that isn't one is refused, by pieces and whole.
-fn is_no_record(alloc: Global) -> bool {
-    let mut wrong = JOURNAL;
-    wrong[17] = 9;
-    fails(alloc, &wrong, 7, ReplayError::BadRecord)
-        && fails(alloc, &wrong, 49, ReplayError::BadRecord)
-}
-
-// Whether both are so.
-fn are_none(alloc: Global) -> bool {
-    is_no_seal(alloc) && is_no_record(alloc)
-}
-
 #[test]
-fn no_seal_and_no_record(rt: HostRuntime) {
-    assert!(rt; are_none(rt.alloc()));
+fn no_seal(rt: HostRuntime) {
+    assert!(rt; is_no_seal(rt.alloc()));
 }
 
 // Whether a journal that comes by pieces of this length has chunk 0 at these places without its
@@ -177,63 +164,4 @@ fn both_go(alloc: Global) -> bool {
 #[test]
 fn places_of_a_chunk_go_with_it(rt: HostRuntime) {
     assert!(rt; both_go(rt.alloc()));
-}
-
-// Whether the place is four bytes from 56 on.
-fn has_numbers(place: Extent) -> bool {
-    place.at() == 56 && place.length() == 4 && Extent::before(60, 4) == Some(place)
-}
-
-// Whether that place is so, and none lies too far behind.
-fn are_numbers() -> bool {
-    match Extent::new(56, 4) {
-        Some(place) => has_numbers(place) && Extent::new(1 << 40, 4).is_none(),
-        None => false,
-    }
-}
-
-#[test]
-fn places_in_numbers(rt: HostRuntime) {
-    assert!(rt; are_numbers());
-}
-
-// Chunk 7 at the first place, where there is room for one, and then at the second, as chunk 9.
-fn put_both(places: &mut Places<Global>, first: Extent, second: Extent) -> Result<(), AllocError> {
-    places.reserve(7)?;
-    places.add(7, first);
-    places.append(9, second)?;
-    places.append(7, second)
-}
-
-// Whether the chunk of this serial has these places.
-fn has(places: &Places<Global>, serial: u64, wanted: &[Extent]) -> bool {
-    places.at(serial) == wanted
-}
-
-// Whether chunk 7 has these places, and chunk 9 the second.
-fn has_both(places: &Places<Global>, seven: &[Extent], second: Extent) -> bool {
-    has(places, 7, seven) && has(places, 9, &[second])
-}
-
-// Whether these places come, and those of chunk 7 go.
-fn come_and_go(alloc: Global, first: Extent, second: Extent) -> bool {
-    let mut places = Places::new(alloc);
-    let are_none = has(&places, 7, &[]);
-    let are_put = put_both(&mut places, first, second).is_ok();
-    let have_come = has_both(&places, &[first, second], second);
-    places.remove(7);
-    are_none && are_put && have_come && has_both(&places, &[], second)
-}
-
-// The same of two places.
-fn both_come_and_go(alloc: Global) -> bool {
-    match (Extent::new(33, 3), Extent::new(56, 4)) {
-        (Some(first), Some(second)) => come_and_go(alloc, first, second),
-        _ => false,
-    }
-}
-
-#[test]
-fn places_come_and_go(rt: HostRuntime) {
-    assert!(rt; both_come_and_go(rt.alloc()));
 }

@@ -2,7 +2,7 @@
 
 use crate::devices::Stopping;
 use crate::script::{Course, go_through};
-use crate::{buffers, claims, deliveries, folders, numbering, pendings, rotations, sinks};
+use crate::{buffers, claims, deliveries, folders, pendings, rotations, sinks};
 use disk_files::MemoryDir;
 use std::alloc::Global;
 use std::sync::Wait;
@@ -12,14 +12,8 @@ use std::sync::Wait;
 pub enum Part {
     /// What a stop leaves.
     Stops,
-    /// Devices that fail.
-    Devices,
     /// Names of files, which are taken.
     Names,
-    /// Numbers of files.
-    Numbers,
-    /// Bytes of a file.
-    Bytes,
     /// A sink's bytes, and its receipt.
     Receipt,
     /// Items of a sink's file.
@@ -85,10 +79,7 @@ fn is_shared_so<R: Wait, D: Stopping>(rt: &R, alloc: Global, shared: Shared) -> 
 fn is_so<R: Wait, D: Stopping>(rt: &R, alloc: Global, part: Part) -> bool {
     match part {
         Part::Stops => folders::are_left::<D>(alloc),
-        Part::Devices => folders::are_devices::<D>(alloc),
         Part::Names => folders::are_taken_until_a_stop::<D>(alloc),
-        Part::Numbers => numbering::are_there::<D>(alloc),
-        Part::Bytes => numbering::are_read::<D>(alloc),
         Part::Receipt => sinks::outlives_a_stop::<D>(alloc),
         Part::Items => sinks::are_items::<D>(alloc),
         Part::LastFile => sinks::are_told::<D>(alloc),

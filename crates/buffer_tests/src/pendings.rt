@@ -3,8 +3,8 @@
 use crate::devices::{Failing, Stopping};
 use crate::parts::{Part, Shared, in_memory};
 use crate::script::WIDE;
-use crate::shelves::{LEAF, Shelf, begun, buffer_in, shelf_in};
-use ack_receipt::{Delivery, Numbers, Pending, Receipt, RedeemFault};
+use crate::shelves::{LEAF, Shelf, begun, buffer_in, give_up_all, pending_of, shelf_in, spend_all};
+use ack_receipt::{Numbers, Pending, RedeemFault};
 use buffer_store::{Buffer, BufferFault};
 use disk_files::{Dir, Keep};
 use std::alloc::Global;
@@ -13,16 +13,24 @@ use std::sync::Wait;
 // More calls of a folder than anything here makes.
 const MANY: u64 = 1_000;
 
-// Stages one message, without its sync, where it can be.
-fn pended<R: Wait, D: Dir>(
+// One more append of a delivery that waits, where it can be.
+fn add_waiting<R: Wait, D: Dir>(
+    alloc: Global,
     rt: &R,
     shelf: &Shelf<D>,
-    delivery: &Delivery<Global>,
-) -> Option<Pending<Global>> {
-    if delivery.entries().count() == 0 {
-        return None;
+    numbers: &mut Numbers,
+    pendings: &mut Vec<Pending<Global>, Global>,
+) {
+    if pendings.reserve(1).is_err() {
+        return;
     }
-    shelf.append_pending(rt, delivery).ok()
+    let Some(delivery) = begun(alloc, numbers, LEAF, b'a', 1) else {
+        return;
+    };
+    if let Ok(pending) = pending_of(rt, shelf, &delivery) {
+        pendings.push_reserved(pending);
+    }
+    let _ = delivery.abandon();
 }
 
 // The appends of so many deliveries that wait, as far as memory reaches.
@@ -35,59 +43,52 @@ fn waiting<R: Wait, D: Dir>(
     let mut numbers = Numbers::new();
     let mut pendings = Vec::new(alloc);
     for _ in 0..count {
-        if pendings.reserve(1).is_err() {
-            return pendings;
-        }
-        let Ok(delivery) = begun(alloc, &mut numbers, &[LEAF]) else {
-            return pendings;
-        };
-        if let Some(pending) = pended(rt, shelf, &delivery) {
-            pendings.push_reserved(pending);
-        }
-        let _ = delivery.abandon();
+        add_waiting(alloc, rt, shelf, &mut numbers, &mut pendings);
     }
     pendings
 }
 
-// Ends receipts.
-fn spend_all(receipts: Vec<Receipt<Global>, Global>) {
-    let mut rest = receipts.into_iter();
-    while let Some(receipt) = rest.next() {
-        let _ = receipt.spend();
-    }
-    rest.destroy_empty();
-}
-
-// Ends what waits.
-fn give_up_all<R: Wait, D: Dir>(rt: &R, shelf: &Shelf<D>, pendings: Vec<Pending<Global>, Global>) {
-    let mut rest = pendings.into_iter();
-    while let Some(pending) = rest.next() {
-        shelf.give_up(rt, pending);
-    }
-    rest.destroy_empty();
-}
-
 // Redeems a list once, and what is handed back once more: both answers.
 fn redeemed<R: Wait, D: Dir>(
+    alloc: Global,
     rt: &R,
     shelf: &Shelf<D>,
     pendings: Vec<Pending<Global>, Global>,
 ) -> [Option<RedeemFault>; 2] {
-    let (first, pendings) = match shelf.redeem(rt, pendings) {
-        Ok(receipts) => {
-            spend_all(receipts);
-            return [None, None];
-        }
-        Err(refused) => refused,
-    };
+    match redeemed_once(alloc, rt, shelf, pendings) {
+        Ok(()) => [None, None],
+        Err((first, pendings)) => [Some(first), redeemed_again(alloc, rt, shelf, pendings)],
+    }
+}
+
+// Redeems a list, unless it is handed back.
+fn redeemed_once<R: Wait, D: Dir>(
+    alloc: Global,
+    rt: &R,
+    shelf: &Shelf<D>,
+    pendings: Vec<Pending<Global>, Global>,
+) -> Result<(), (RedeemFault, Vec<Pending<Global>, Global>)> {
     match shelf.redeem(rt, pendings) {
         Ok(receipts) => {
-            spend_all(receipts);
-            [Some(first), None]
+            spend_all(receipts, &mut Vec::new(alloc));
+            Ok(())
         }
+        Err(refused) => Err(refused),
+    }
+}
+
+// Why the list isn't redeemed; it is given up then.
+fn redeemed_again<R: Wait, D: Dir>(
+    alloc: Global,
+    rt: &R,
+    shelf: &Shelf<D>,
+    pendings: Vec<Pending<Global>, Global>,
+) -> Option<RedeemFault> {
+    match redeemed_once(alloc, rt, shelf, pendings) {
+        Ok(()) => None,
         Err((second, pendings)) => {
             give_up_all(rt, shelf, pendings);
-            [Some(first), Some(second)]
+            Some(second)
         }
     }
 }
@@ -108,46 +109,46 @@ fn shows<D: Dir>(buffer: &mut Buffer<D, Global>, count: Option<usize>, next: u64
 // The same of the buffer in this folder.
 fn has<D: Dir + Drop>(alloc: Global, dir: D, count: Option<usize>, next: u64) -> bool {
     match buffer_in(alloc, dir, WIDE) {
-        Ok(mut buffer) => shows(&mut buffer, count, next),
-        Err(_) => false,
+        Some(mut buffer) => shows(&mut buffer, count, next),
+        None => false,
     }
 }
 
 // The folder of a buffer in which two appends wait, and are given up.
-fn given_up<R: Wait, D: Dir + Drop>(alloc: Global, rt: &R, dir: D) -> Result<D, BufferFault> {
-    let shelf = shelf_in(alloc, dir, LEAF, WIDE)?;
+fn given_up<R: Wait, D: Dir + Drop>(alloc: Global, rt: &R, dir: D) -> Option<D> {
+    let Some(shelf) = shelf_in(alloc, dir, LEAF, WIDE) else {
+        return None;
+    };
     let pendings = waiting(alloc, rt, &shelf, 2);
     give_up_all(rt, &shelf, pendings);
-    Ok(shelf.close().into_dir())
+    Some(shelf.close().into_dir())
 }
 
 // The same where they are redeemed, and whether they are at once.
-fn redeemed_in<R: Wait, D: Dir + Drop>(
-    alloc: Global,
-    rt: &R,
-    dir: D,
-) -> Result<(bool, D), BufferFault> {
-    let shelf = shelf_in(alloc, dir, LEAF, WIDE)?;
+fn redeemed_in<R: Wait, D: Dir + Drop>(alloc: Global, rt: &R, dir: D) -> Option<(bool, D)> {
+    let Some(shelf) = shelf_in(alloc, dir, LEAF, WIDE) else {
+        return None;
+    };
     let pendings = waiting(alloc, rt, &shelf, 2);
-    let is_redeemed = redeemed(rt, &shelf, pendings) == [None, None];
-    Ok((is_redeemed, shelf.close().into_dir()))
+    let is_redeemed = redeemed(alloc, rt, &shelf, pendings) == [None, None];
+    Some((is_redeemed, shelf.close().into_dir()))
 }
 
 // Whether two appends that wait are lost by a stop.
 fn are_lost<R: Wait, D: Stopping>(alloc: Global, rt: &R) -> bool {
     match given_up(alloc, rt, D::made(alloc)) {
-        Ok(dir) => has(alloc, dir.stopped(Keep::Least), None, 0),
-        Err(_) => false,
+        Some(dir) => has(alloc, dir.stopped(Keep::Least), None, 0),
+        None => false,
     }
 }
 
 // Whether two appends that are redeemed are both there behind a stop.
 fn are_kept<R: Wait, D: Stopping>(alloc: Global, rt: &R) -> bool {
     match redeemed_in(alloc, rt, D::made(alloc)) {
-        Ok((is_redeemed, dir)) => {
+        Some((is_redeemed, dir)) => {
             has(alloc, dir.stopped(Keep::Least), Some(2), 1) && is_redeemed
         }
-        Err(_) => false,
+        None => false,
     }
 }
 
@@ -169,7 +170,7 @@ fn answers_in<R: Wait, D: Dir + Drop>(
     dir: D,
     count: u64,
 ) -> Option<[Option<RedeemFault>; 2]> {
-    let Ok(shelf) = shelf_in(alloc, dir, LEAF, WIDE) else {
+    let Some(shelf) = shelf_in(alloc, dir, LEAF, WIDE) else {
         return None;
     };
     let pendings = waiting(alloc, rt, &shelf, count);
@@ -177,7 +178,7 @@ fn answers_in<R: Wait, D: Dir + Drop>(
         give_up_all(rt, &shelf, pendings);
         return None;
     }
-    Some(redeemed(rt, &shelf, pendings))
+    Some(redeemed(alloc, rt, &shelf, pendings))
 }
 
 // The same on a device that fails after so many calls.

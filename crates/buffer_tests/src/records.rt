@@ -1,48 +1,13 @@
-//! Journals by their bytes, and each record that can't stand where it does.
+//! Journals by their bytes.
 
 use crate::audits::is_printed;
 use buffer_state::{Chunks, Stage};
 use chunk_journal::{ReplayError, replay};
-use std::alloc::{AllocError, Global};
+use std::alloc::Global;
 
 // A Seal of 0, one entry for chunk 0 of tag `a`, and its Queue.
 static JOURNAL: [u8; 49] =
     *b"\0\0\0\x09\x01\0\0\0\0\0\0\0\0\0\0\0\x13\x02\0\0\0\0\0\0\0\0\0\x01a\0\0\0\x01\x92\x01\x80\0\0\0\x09\x03\0\0\0\0\0\0\0\0";
-
-// Records of one serial; an Append has one entry, of tag `a`, or `b` in the others.
-const SEAL_0: &[u8] = b"\0\0\0\x09\x01\0\0\0\0\0\0\0\0";
-
-const SEAL_9: &[u8] = b"\0\0\0\x09\x01\0\0\0\0\0\0\0\x09";
-
-const SEAL_LAST: &[u8] = b"\0\0\0\x09\x01\xff\xff\xff\xff\xff\xff\xff\xff";
-
-const APPEND_0: &[u8] = b"\0\0\0\x13\x02\0\0\0\0\0\0\0\0\0\x01a\0\0\0\x01\x92\x01\x80";
-
-const APPEND_1: &[u8] = b"\0\0\0\x13\x02\0\0\0\0\0\0\0\x01\0\x01a\0\0\0\x01\x92\x01\x80";
-
-const APPEND_3: &[u8] = b"\0\0\0\x13\x02\0\0\0\0\0\0\0\x03\0\x01a\0\0\0\x01\x92\x01\x80";
-
-const APPEND_LAST: &[u8] =
-    b"\0\0\0\x13\x02\xff\xff\xff\xff\xff\xff\xff\xff\0\x01a\0\0\0\x01\x92\x01\x80";
-
-const OTHER_0: &[u8] = b"\0\0\0\x13\x02\0\0\0\0\0\0\0\0\0\x01b\0\0\0\x01\x92\x01\x80";
-
-const OTHER_9: &[u8] = b"\0\0\0\x13\x02\0\0\0\0\0\0\0\x09\0\x01b\0\0\0\x01\x92\x01\x80";
-
-const QUEUE_0: &[u8] = b"\0\0\0\x09\x03\0\0\0\0\0\0\0\0";
-
-const QUEUE_3: &[u8] = b"\0\0\0\x09\x03\0\0\0\0\0\0\0\x03";
-
-const PURGE_0: &[u8] = b"\0\0\0\x09\x04\0\0\0\0\0\0\0\0";
-
-// These records, one after another.
-fn journal(alloc: Global, records: &[&[u8]]) -> Result<Vec<u8>, AllocError> {
-    let mut bytes = Vec::new(alloc);
-    for record in records {
-        bytes.extend_from_slice(record)?;
-    }
-    Ok(bytes)
-}
 
 // Whether replaying uses so many bytes, and gives the next serial and the stage of chunk 0.
 fn gives(alloc: Global, bytes: &[u8], used: usize, next: u64, stage: Option<Stage>) -> bool {
@@ -97,65 +62,19 @@ fn each_cut_of_a_journal(rt: HostRuntime) {
     assert!(rt; are_cuts(rt.alloc()));
 }
 
-static GENERATION: [&[u8]; 8] = [
-    APPEND_0, QUEUE_0, APPEND_3, SEAL_9, APPEND_3, OTHER_9, QUEUE_3, PURGE_0,
-];
+// Chunk 0, which is queued, and chunk 3, both of tag `a`; a Seal of 9; one more entry for chunk 3,
+// chunk 9 of tag `b`, the Queue of 3, and the Purge of 0.
+static GENERATION: &[u8] =
+    b"\0\0\0\x13\x02\0\0\0\0\0\0\0\0\0\x01a\0\0\0\x01\x92\x01\x80\0\0\0\x09\x03\0\0\0\0\0\0\0\0\0\0\0\x13\x02\0\0\0\0\0\0\0\x03\0\x01a\0\0\0\x01\x92\x01\x80\0\0\0\x09\x01\0\0\0\0\0\0\0\x09\0\0\0\x13\x02\0\0\0\0\0\0\0\x03\0\x01a\0\0\0\x01\x92\x01\x80\0\0\0\x13\x02\0\0\0\0\0\0\0\x09\0\x01b\0\0\0\x01\x92\x01\x80\0\0\0\x09\x03\0\0\0\0\0\0\0\x03\0\0\0\x09\x04\0\0\0\0\0\0\0\0";
 
 // Whether all of it is used, no chunk 0 is left, and the next is 10.
 fn is_generation(alloc: Global) -> bool {
-    match journal(alloc, &GENERATION) {
-        Ok(bytes) => gives(alloc, &bytes, bytes.len(), 10, None),
-        Err(AllocError) => false,
-    }
+    gives(alloc, GENERATION, GENERATION.len(), 10, None)
 }
 
 #[test]
 fn a_generation_with_chunks(rt: HostRuntime) {
     assert!(rt; is_generation(rt.alloc()));
-}
-
-// The last record of each can't stand there.
-static MISPLACED: [&[&[u8]]; 17] = [
-    &[APPEND_0, APPEND_0],
-    &[APPEND_1, APPEND_0],
-    &[QUEUE_0],
-    &[APPEND_0, APPEND_1, QUEUE_0],
-    &[APPEND_0, QUEUE_0, QUEUE_0],
-    &[APPEND_0, QUEUE_0, PURGE_0],
-    &[APPEND_0, SEAL_0],
-    &[APPEND_LAST],
-    &[SEAL_0, SEAL_0],
-    &[SEAL_0, APPEND_1],
-    &[SEAL_0, APPEND_0, OTHER_0],
-    &[SEAL_0, APPEND_0, QUEUE_0, APPEND_0],
-    &[SEAL_0, QUEUE_0],
-    &[SEAL_0, APPEND_0, PURGE_0],
-    &[SEAL_0, APPEND_0, QUEUE_0, QUEUE_0],
-    &[SEAL_0, APPEND_0, QUEUE_0, PURGE_0, PURGE_0],
-    &[SEAL_LAST, APPEND_LAST],
-];
-
-// Whether replaying these records says that one is bad.
-fn is_misplaced(alloc: Global, records: &[&[u8]]) -> bool {
-    match journal(alloc, records) {
-        Ok(bytes) => fails(alloc, &bytes, ReplayError::BadRecord),
-        Err(AllocError) => false,
-    }
-}
-
-// The same of each row.
-fn are_misplaced(alloc: Global) -> bool {
-    for records in &MISPLACED {
-        if !is_misplaced(alloc, records) {
-            return false;
-        }
-    }
-    true
-}
-
-#[test]
-fn misplaced_records(rt: HostRuntime) {
-    assert!(rt; are_misplaced(rt.alloc()));
 }
 
 // No record begins so: a length of 0, one too long, kinds that aren't, a Seal too short and too

@@ -5,7 +5,7 @@ use buffer_state::{Limits, Stage};
 use buffer_store::{Appended, Buffer, BufferFault, RENEWED_PAST_IN_MEMORY, Settings};
 use disk_files::{Dir, Keep};
 use event_modes::Entries;
-use std::alloc::{AllocError, Allocator, Global};
+use std::alloc::{Allocator, Global};
 
 static ENTRY: [u8; 3] = [0x92, 0x01, 0x80];
 
@@ -70,15 +70,25 @@ pub enum Answer {
 /// A step, and its answer.
 pub type Row = (Act, Answer);
 
-// So many entries of three bytes.
-fn entries(alloc: Global, count: usize) -> Result<Entries<Global>, AllocError> {
-    let mut bytes = Vec::new(alloc);
+/// So many entries of three bytes.
+pub fn entries<A: Allocator + Copy>(alloc: A, count: usize) -> Option<Entries<A>> {
+    let Ok(Some(one)) = Entries::read(alloc, &ENTRY, 1) else {
+        return None;
+    };
+    let mut all = Entries::new(alloc);
     for _ in 0..count {
-        bytes.extend_from_slice(&ENTRY)?;
+        if all.append(&one).is_err() {
+            return None;
+        }
     }
-    match Entries::read(alloc, &bytes, count)? {
-        Some(entries) => Ok(entries),
-        None => Err(AllocError),
+    Some(all)
+}
+
+/// How many entries a step appends; one where it appends none.
+pub fn count_of(step: Act) -> usize {
+    match step {
+        Act::Stage(_, count) | Act::Append(_, count) => count,
+        _ => 1,
     }
 }
 
@@ -103,42 +113,30 @@ fn found(serial: Option<u64>) -> Answer {
     }
 }
 
-fn stage<D: Dir>(alloc: Global, buffer: &mut Buffer<D, Global>, tag: u8, count: usize) -> Answer {
-    match entries(alloc, count) {
-        Ok(some) if some.count() > 0 => appended(buffer.stage(&[tag], &some)),
-        _ => Answer::Nothing,
+fn stage<A: Allocator + Copy, D: Dir>(
+    buffer: &mut Buffer<D, A>,
+    tag: u8,
+    some: &Entries<A>,
+) -> Answer {
+    if some.count() == 0 {
+        return Answer::Nothing;
     }
+    appended(buffer.stage(&[tag], some))
 }
 
-fn append<D: Dir>(alloc: Global, buffer: &mut Buffer<D, Global>, tag: u8, count: usize) -> Answer {
-    match entries(alloc, count) {
-        Ok(some) if some.count() > 0 => appended(buffer.append(&[tag], &some)),
-        _ => Answer::Nothing,
+fn append<A: Allocator + Copy, D: Dir>(
+    buffer: &mut Buffer<D, A>,
+    tag: u8,
+    some: &Entries<A>,
+) -> Answer {
+    if some.count() == 0 {
+        return Answer::Nothing;
     }
-}
-
-fn sync<D: Dir>(buffer: &mut Buffer<D, Global>) -> Answer {
-    done(buffer.sync())
-}
-
-fn enqueue<D: Dir>(buffer: &mut Buffer<D, Global>, serial: u64) -> Answer {
-    done(buffer.enqueue(serial))
-}
-
-fn claim<D: Dir>(buffer: &mut Buffer<D, Global>) -> Answer {
-    found(buffer.claim())
-}
-
-fn purge<D: Dir>(buffer: &mut Buffer<D, Global>, serial: u64) -> Answer {
-    done(buffer.purge(serial))
-}
-
-fn renew<D: Dir>(buffer: &mut Buffer<D, Global>) -> Answer {
-    done(buffer.renew())
+    appended(buffer.append(&[tag], some))
 }
 
 // Gives back a chunk that is claimed.
-fn give_back<D: Dir>(buffer: &mut Buffer<D, Global>, serial: u64) -> Answer {
+fn give_back<A: Allocator + Copy, D: Dir>(buffer: &mut Buffer<D, A>, serial: u64) -> Answer {
     if buffer.chunks().stage(serial) == Some(Stage::Claimed) {
         buffer.give_back(serial);
         return Answer::Done;
@@ -146,28 +144,28 @@ fn give_back<D: Dir>(buffer: &mut Buffer<D, Global>, serial: u64) -> Answer {
     Answer::Nothing
 }
 
-fn drop_oldest<D: Dir>(buffer: &mut Buffer<D, Global>) -> Answer {
+fn drop_oldest<A: Allocator + Copy, D: Dir>(buffer: &mut Buffer<D, A>) -> Answer {
     match buffer.drop_oldest() {
         Ok(serial) => Answer::Serial(serial),
         Err(fault) => Answer::Refused(fault),
     }
 }
 
-fn look<D: Dir>(buffer: &Buffer<D, Global>, serial: u64) -> Answer {
+fn look<A: Allocator + Copy, D: Dir>(buffer: &Buffer<D, A>, serial: u64) -> Answer {
     match buffer.chunks().stage(serial) {
         None => Answer::Nothing,
         Some(stage) => Answer::At(stage),
     }
 }
 
-fn body<D: Dir>(buffer: &mut Buffer<D, Global>, serial: u64) -> Answer {
+fn body<A: Allocator + Copy, D: Dir>(buffer: &mut Buffer<D, A>, serial: u64) -> Answer {
     match buffer.body(serial) {
         Ok(entries) => Answer::Entries(entries.count()),
         Err(fault) => Answer::Refused(fault),
     }
 }
 
-fn facts<D: Dir>(buffer: &Buffer<D, Global>, serial: u64) -> Answer {
+fn facts<A: Allocator + Copy, D: Dir>(buffer: &Buffer<D, A>, serial: u64) -> Answer {
     match buffer.chunks().facts(serial) {
         Some(facts) if facts.serial == serial => match facts.tag {
             [tag] => Answer::Facts(*tag, facts.count, facts.size),
@@ -177,7 +175,7 @@ fn facts<D: Dir>(buffer: &Buffer<D, Global>, serial: u64) -> Answer {
     }
 }
 
-fn sum<D: Dir>(buffer: &Buffer<D, Global>) -> Answer {
+fn sum<A: Allocator + Copy, D: Dir>(buffer: &Buffer<D, A>) -> Answer {
     let mut sum = 0u128;
     for facts in buffer.chunks().iter() {
         sum = sum.saturating_add(facts.size as u128);
@@ -186,7 +184,7 @@ fn sum<D: Dir>(buffer: &Buffer<D, Global>) -> Answer {
 }
 
 // What a look at the buffer shows; nothing where the step isn't one.
-fn look_at<D: Dir>(buffer: &mut Buffer<D, Global>, step: Act) -> Answer {
+fn look_at<A: Allocator + Copy, D: Dir>(buffer: &mut Buffer<D, A>, step: Act) -> Answer {
     match step {
         Act::Next => Answer::Serial(buffer.chunks().next_serial()),
         Act::First => found(buffer.chunks().first()),
@@ -201,26 +199,60 @@ fn look_at<D: Dir>(buffer: &mut Buffer<D, Global>, step: Act) -> Answer {
     }
 }
 
-// Takes the buffer through a step.
-fn take<D: Dir>(alloc: Global, buffer: &mut Buffer<D, Global>, step: Act) -> Answer {
+/// Takes the buffer through a step, with the entries that it appends.
+pub fn take<A: Allocator + Copy, D: Dir>(
+    buffer: &mut Buffer<D, A>,
+    some: &Entries<A>,
+    step: Act,
+) -> Answer {
     match step {
-        Act::Stage(tag, count) => stage(alloc, buffer, tag, count),
-        Act::Append(tag, count) => append(alloc, buffer, tag, count),
-        Act::Sync => sync(buffer),
-        Act::Enqueue(serial) => enqueue(buffer, serial),
-        Act::Claim => claim(buffer),
+        Act::Stage(tag, _) => stage(buffer, tag, some),
+        Act::Append(tag, _) => append(buffer, tag, some),
+        Act::Sync => done(buffer.sync()),
+        Act::Enqueue(serial) => done(buffer.enqueue(serial)),
+        Act::Claim => found(buffer.claim()),
         Act::GiveBack(serial) => give_back(buffer, serial),
-        Act::Purge(serial) => purge(buffer, serial),
+        Act::Purge(serial) => done(buffer.purge(serial)),
         Act::DropOldest => drop_oldest(buffer),
-        Act::Renew => renew(buffer),
+        Act::Renew => done(buffer.renew()),
         look => look_at(buffer, look),
     }
 }
 
+// What a step is answered by.
+fn answer_of<A: Allocator + Copy, D: Dir>(
+    alloc: A,
+    buffer: &mut Buffer<D, A>,
+    step: Act,
+) -> Answer {
+    match entries(alloc, count_of(step)) {
+        Some(some) => take(buffer, &some, step),
+        None => Answer::Refused(BufferFault::Memory),
+    }
+}
+
 // Whether each step is answered as its row says; those behind one that isn't aren't taken.
-fn are_answered<D: Dir>(alloc: Global, buffer: &mut Buffer<D, Global>, rows: &[Row]) -> bool {
+fn are_answered<A: Allocator + Copy, D: Dir>(
+    alloc: A,
+    buffer: &mut Buffer<D, A>,
+    rows: &[Row],
+) -> bool {
     for (step, answer) in rows {
-        if take(alloc, buffer, *step) != *answer {
+        if answer_of(alloc, buffer, *step) != *answer {
+            return false;
+        }
+    }
+    true
+}
+
+/// The same where a step is answered by anything but a refusal.
+pub fn are_taken<A: Allocator + Copy, D: Dir>(
+    alloc: A,
+    buffer: &mut Buffer<D, A>,
+    steps: &[Act],
+) -> bool {
+    for step in steps {
+        if matches!(answer_of(alloc, buffer, *step), Answer::Refused(_)) {
             return false;
         }
     }
@@ -248,7 +280,12 @@ pub type Went = Result<bool, BufferFault>;
 
 /// Opens the buffer in this folder, and takes it through the steps up to the first that is answered
 /// otherwise than its row says.
-pub fn play<D: Dir>(alloc: Global, dir: D, limits: Limits, rows: &[Row]) -> (Went, D) {
+pub fn play<A: Allocator + Copy, D: Dir>(
+    alloc: A,
+    dir: D,
+    limits: Limits,
+    rows: &[Row],
+) -> (Went, D) {
     match open(alloc, dir, limits, RENEWED_PAST_IN_MEMORY) {
         Ok(mut buffer) => {
             let are_answered = are_answered(alloc, &mut buffer, rows);

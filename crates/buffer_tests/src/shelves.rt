@@ -1,17 +1,18 @@
 //! Shared buffers for the tests, and deliveries to them.
 
-ghost use Rattle.std.specs.Prelude.{◌≡◌, IfOk};
+ghost use Rattle.std.specs.Prelude.{◌≡◌, IfSome};
 ghost use Rattle.event_modes.specs.Reading.{meaning};
 
-use crate::script::{WIDE, open};
+use crate::script::{WIDE, entries, open};
 use ack_receipt::{
-    AuditError, Basis, BookFault, Closed, Delivery, Leaf, Numbers, SharedBuffer, Stub, Takes,
+    AuditError, Basis, BookFault, Closed, Delivery, Leaf, Numbers, Pending, Receipt, SharedBuffer,
+    Stub, Takes,
 };
 use buffer_state::Limits;
 use buffer_store::{Buffer, BufferFault, RENEWED_PAST_IN_MEMORY};
 use disk_files::Dir;
-use event_modes::{Entries, Message};
-use std::alloc::Global;
+use event_modes::Message;
+use std::alloc::{Allocator, Global};
 use std::sync::Wait;
 
 pub type Shelf<D> = SharedBuffer<D, Global>;
@@ -25,96 +26,138 @@ pub const LEAF: Leaf = Leaf {
 pub const ENTRY: &[u8] = b"\x92\x01\x80";
 
 // The buffer in this folder, whose journal is to be renewed past so many bytes.
-fn opened<D: Dir + Drop>(
-    alloc: Global,
+fn opened<A: Allocator + Copy, D: Dir + Drop>(
+    alloc: A,
     dir: D,
     limits: Limits,
     renewed_past: u64,
-) -> Result<Buffer<D, Global>, BufferFault> {
+) -> Option<Buffer<D, A>> {
     match open(alloc, dir, limits, renewed_past) {
-        Ok(buffer) => Ok(buffer),
-        Err((fault, _dir)) => Err(fault),
+        Ok(buffer) => Some(buffer),
+        Err((_fault, _dir)) => None,
     }
 }
 
 // The buffer in this folder.
-pub fn buffer_in<D: Dir + Drop>(
-    alloc: Global,
+pub fn buffer_in<A: Allocator + Copy, D: Dir + Drop>(
+    alloc: A,
     dir: D,
     limits: Limits,
-) -> Result<Buffer<D, Global>, BufferFault> {
+) -> Option<Buffer<D, A>> {
     opened(alloc, dir, limits, RENEWED_PAST_IN_MEMORY)
 }
 
-// What lets its chunks go: acknowledgements. They may be dropped too.
-fn takes() -> Takes<Global> {
+// What lets its chunks go: this. They may be dropped too.
+fn takes<A: Allocator>(basis: Basis<A>) -> Takes<A> {
     Takes {
-        basis: Basis::Acknowledged,
+        basis,
         expires: false,
         drops: true,
     }
 }
 
 // The same under this name, shared; its chunks go by acknowledgements, and may be dropped.
-pub fn shelf_in<D: Dir + Drop>(
-    alloc: Global,
+pub fn shelf_in<A: Allocator + Copy, D: Dir + Drop>(
+    alloc: A,
     dir: D,
     leaf: Leaf,
     limits: Limits,
-) -> Result<Shelf<D>, BufferFault> {
-    let buffer = buffer_in(alloc, dir, limits)?;
-    Ok(SharedBuffer::new(alloc, buffer, leaf, takes()))
+) -> Option<SharedBuffer<D, A>> {
+    match buffer_in(alloc, dir, limits) {
+        Some(buffer) => Some(SharedBuffer::new(alloc, buffer, leaf, takes(Basis::Acknowledged))),
+        None => None,
+    }
 }
 
 // Such a buffer in this folder, whose journal is renewed wherever it is twice as long as what it
-// keeps.
-pub fn eager_in<D: Dir + Drop>(alloc: Global, dir: D) -> Result<Shelf<D>, BufferFault> {
-    let buffer = opened(alloc, dir, WIDE, 0)?;
-    Ok(SharedBuffer::new(alloc, buffer, LEAF, takes()))
+// keeps, and whose chunks go by this.
+pub fn eager_in<A: Allocator + Copy, D: Dir + Drop>(
+    alloc: A,
+    dir: D,
+    basis: Basis<A>,
+) -> Option<SharedBuffer<D, A>> {
+    match opened(alloc, dir, WIDE, 0) {
+        Some(buffer) => Some(SharedBuffer::new(alloc, buffer, LEAF, takes(basis))),
+        None => None,
+    }
 }
 
-// The tag `a` and one entry.
-pub fn message(alloc: Global) -> Result<Message<Global>, BufferFault> {
-    match Entries::read(alloc, ENTRY, 1)? {
-        Some(entries) => Ok(Message {
-            tag: Vec::from_slice(alloc, b"a")?,
+// A message of this tag, with so many entries, which asks for an answer.
+pub fn message<A: Allocator + Copy>(alloc: A, tag: u8, count: usize) -> Option<Message<A>> {
+    let (Ok(tag), Ok(ack)) = (
+        Vec::from_slice(alloc, &[tag]),
+        Vec::from_slice(alloc, b"\xa2c1"),
+    ) else {
+        return None;
+    };
+    match entries(alloc, count) {
+        Some(entries) => Some(Message {
+            tag,
             entries,
-            ack: None,
+            ack: Some(ack),
         }),
-        None => Err(BufferFault::Memory),
+        None => None,
     }
 }
 
 // The next delivery of a message.
-pub fn begun_of(
-    alloc: Global,
+pub fn begun_of<A: Allocator + Copy>(
+    alloc: A,
     numbers: &mut Numbers,
-    message: Message<Global>,
+    message: Message<A>,
     leaves: &[Leaf],
-) -> Result<Delivery<Global>, BufferFault>
-    ensures { IfOk result (λ delivery. delivery.message ≡ meaning message) }
+) -> Option<Delivery<A>>
+    ensures { IfSome result (λ delivery. delivery.message ≡ meaning message) }
 {
-    let leaves = Vec::from_slice(alloc, leaves)?;
-    let Some(number) = numbers.draw() else {
-        return Err(BufferFault::LastSerial);
+    let (Some(number), Ok(leaves)) = (numbers.draw(), Vec::from_slice(alloc, leaves)) else {
+        return None;
     };
     match Delivery::begin(alloc, number, message, leaves) {
-        Ok(delivery) => Ok(delivery),
-        Err(_) => Err(BufferFault::Memory),
+        Ok(delivery) => Some(delivery),
+        Err(_) => None,
     }
 }
 
-// The next delivery of the one message that is sent here.
-pub fn begun(
-    alloc: Global,
+// The next delivery of a message of this tag, with so many entries, to one buffer.
+pub fn begun<A: Allocator + Copy>(
+    alloc: A,
     numbers: &mut Numbers,
-    leaves: &[Leaf],
-) -> Result<Delivery<Global>, BufferFault> {
-    begun_of(alloc, numbers, message(alloc)?, leaves)
+    leaf: Leaf,
+    tag: u8,
+    count: usize,
+) -> Option<Delivery<A>> {
+    match message(alloc, tag, count) {
+        Some(message) => begun_of(alloc, numbers, message, &[leaf]),
+        None => None,
+    }
 }
 
 // What is left of a receipt that its delivery didn't take, and why not.
 pub type Refused = (BookFault, Stub<Global>);
+
+// The receipt of a delivery that is appended; one of no entries isn't.
+pub fn receipt_of<R: Wait, A: Allocator + Copy, D: Dir>(
+    rt: &R,
+    shelf: &SharedBuffer<D, A>,
+    delivery: &Delivery<A>,
+) -> Result<Receipt<A>, BufferFault> {
+    if delivery.entries().count() == 0 {
+        return Err(BufferFault::Gone);
+    }
+    shelf.append(rt, delivery)
+}
+
+// The same without a sync.
+pub fn pending_of<R: Wait, A: Allocator + Copy, D: Dir>(
+    rt: &R,
+    shelf: &SharedBuffer<D, A>,
+    delivery: &Delivery<A>,
+) -> Result<Pending<A>, BufferFault> {
+    if delivery.entries().count() == 0 {
+        return Err(BufferFault::Gone);
+    }
+    shelf.append_pending(rt, delivery)
+}
 
 // Appends a delivery where it can be, and adds the receipt.
 pub fn put<R: Wait, D: Dir>(
@@ -124,10 +167,7 @@ pub fn put<R: Wait, D: Dir>(
 ) -> (Delivery<Global>, Option<Refused>)
     ensures { result.0.message ≡ delivery.message }
 {
-    if delivery.entries().count() == 0 {
-        return (delivery, None);
-    }
-    let Ok(receipt) = shelf.append(rt, &delivery) else {
+    let Ok(receipt) = receipt_of(rt, shelf, &delivery) else {
         return (delivery, None);
     };
     match delivery.add(receipt) {
@@ -136,9 +176,37 @@ pub fn put<R: Wait, D: Dir>(
     }
 }
 
+// Ends what waits.
+pub fn give_up_all<R: Wait, A: Allocator + Copy, D: Dir>(
+    rt: &R,
+    shelf: &SharedBuffer<D, A>,
+    waiting: Vec<Pending<A>, A>,
+) {
+    let mut rest = waiting.into_iter();
+    while let Some(pending) = rest.next() {
+        shelf.give_up(rt, pending);
+    }
+    rest.destroy_empty();
+}
+
+// Ends receipts, of which stubs are left, and says the sum of their chunks' serials.
+pub fn spend_all<A: Allocator + Copy>(
+    receipts: Vec<Receipt<A>, A>,
+    stubs: &mut Vec<Stub<A>, A>,
+) -> u64 {
+    let mut rest = receipts.into_iter();
+    let mut sum = 0u64;
+    while let Some(receipt) = rest.next() {
+        sum = sum.saturating_add(receipt.serial());
+        let _ = stubs.push(receipt.spend());
+    }
+    rest.destroy_empty();
+    sum
+}
+
 // Queues the chunk of this serial.
-pub fn enqueue<R: Wait, D: Dir>(rt: &R, shelf: &Shelf<D>, serial: u64) -> Result<(), BufferFault> {
-    shelf.enqueue(rt, serial)
+pub fn enqueue<R: Wait, D: Dir>(rt: &R, shelf: &Shelf<D>, serial: u64) -> bool {
+    shelf.enqueue(rt, serial).is_ok()
 }
 
 // Whether there is a chunk of this serial.
@@ -157,10 +225,11 @@ pub fn stored<R: Wait, D: Dir>(
     rt: &R,
     shelf: &Shelf<D>,
     numbers: &mut Numbers,
-) -> Result<Stub<Global>, BufferFault> {
-    let delivery = begun(alloc, numbers, &[shelf.leaf()])?;
-    let (delivery, _) = put(rt, shelf, delivery);
-    Ok(delivery.abandon())
+) -> Option<Stub<Global>> {
+    match begun(alloc, numbers, shelf.leaf(), b'a', 1) {
+        Some(delivery) => Some(put(rt, shelf, delivery).0.abandon()),
+        None => None,
+    }
 }
 
 // Whether an audit of this closed buffer finds this fault, or none.

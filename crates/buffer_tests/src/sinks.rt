@@ -8,19 +8,24 @@ use crate::real::{Real, on_disk};
 use crate::shelves::ENTRY;
 use disk_files::{Dir, Keep};
 use event_modes::Entries;
+use numbered_files::names_differ;
 use sink_series::{
     Series, SeriesFault, SinkEvent, Stored, answers_stand, cuts_whole, holds_one,
     made_adds_nothing, safe_is_content, safe_over_stop,
 };
-use std::alloc::Global;
+use std::alloc::{Allocator, Global};
 
 const ITEM: &[u8] = b"\x93\xa1a\x01\x80";
 
 /// A sink of this path in this folder.
-pub fn opened<D: Dir + Drop>(alloc: Global, dir: D, path: &[u8]) -> Option<Series<D, Global>> {
+pub fn opened<A: Allocator + Copy, D: Dir + Drop>(
+    alloc: A,
+    dir: D,
+    path: &[u8],
+) -> Option<Series<D, A>> {
     match Series::open(alloc, dir, path) {
         Ok(series) => Some(series),
-        Err(_) => None,
+        Err((_fault, _dir)) => None,
     }
 }
 
@@ -33,12 +38,12 @@ pub fn count_in<D: Dir>(series: &mut Series<D, Global>) -> Option<usize> {
 }
 
 /// An entry of these bytes under a tag, written.
-pub fn written<D: Dir>(
-    alloc: Global,
-    series: &mut Series<D, Global>,
+pub fn written<A: Allocator + Copy, D: Dir>(
+    alloc: A,
+    series: &mut Series<D, A>,
     tag: &[u8],
     bytes: &[u8],
-) -> Option<Stored<Global>> {
+) -> Option<Stored<A>> {
     if tag.len() > 9 {
         return None;
     }
@@ -225,6 +230,7 @@ fn last_file(rt: HostRuntime) {
 
 #[test]
 fn laws_are_calls() {
+    names_differ();
     answers_stand();
     holds_one();
     cuts_whole();

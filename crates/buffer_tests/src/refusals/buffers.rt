@@ -1,21 +1,21 @@
 //! Each call of a script of a buffer, and an opening behind each.
 
 use crate::devices::NewDir;
-use crate::refusals::acts::{Act, entry, number_of, take, take_all, tell_buffer};
+use crate::refusals::acts::{tell_answer, tell_buffer};
 use crate::refusals::files::tell_left;
 use crate::refusals::parts::{Part, in_memory};
 use crate::refusals::told::Told;
 use crate::refusals::trial::{Refuses, Trial, requests_of};
-use crate::script::{WIDE, open};
+use crate::script::{Act, WIDE, are_taken, count_of, entries, open, take};
 use buffer_store::{Buffer, BufferFault, RENEWED_PAST_IN_MEMORY};
 use disk_files::Dir;
 use event_modes::Entries;
-use std::alloc::{AllocError, Allocator, Global};
+use std::alloc::{AllocError, Allocator};
 use std::mem::replace;
 use std::process::Abort;
 
 // Chunks of which one grows are queued, claimed, given back, purged and dropped. The journal is
-// renewed with chunks in each stage, and with few.
+// renewed with chunks in each stage, and with few. Each append is of another number of entries.
 static SCRIPT: [Act; 36] = [
     Act::Stage(b'a', 1),
     Act::Append(b'b', 2),
@@ -55,209 +55,184 @@ static SCRIPT: [Act; 36] = [
     Act::Body(7),
 ];
 
-// A buffer in a new folder.
-fn new_buffer<A: Allocator + Copy, D: NewDir<A>>(heap: A) -> Option<Buffer<D, A>> {
-    match open(heap, D::made(heap), WIDE, RENEWED_PAST_IN_MEMORY) {
-        Ok(buffer) => Some(buffer),
-        Err((_fault, _dir)) => None,
+fn act_at(place: usize) -> Act {
+    match SCRIPT.get(place) {
+        Some(act) => *act,
+        None => Act::Sync,
     }
 }
 
-// The buffer behind the calls before this place of the script, in a new folder.
-fn played<A: Allocator + Copy, D: NewDir<A>>(
+// The buffer in this folder behind the calls before this place of the script.
+fn played_in<A: Allocator + Copy, D: Dir + Drop>(
     heap: A,
+    dir: D,
     place: usize,
-    told: &mut Told,
 ) -> Option<Buffer<D, A>> {
-    let Some(mut buffer) = new_buffer(heap) else {
+    let Ok(mut buffer) = open(heap, dir, WIDE, RENEWED_PAST_IN_MEMORY) else {
         return None;
     };
-    let acts = SCRIPT.split_at(place.min(SCRIPT.len())).0;
-    if take_all(heap, &mut buffer, acts, told) {
+    if are_taken(
+        heap,
+        &mut buffer,
+        SCRIPT.split_at(place.min(SCRIPT.len())).0,
+    ) {
         return Some(buffer);
     }
     None
 }
 
-// The call at this place of the script, behind those before it.
+// What is tried behind the calls before a place of the script: the call there, or an opening of the
+// folder that they leave.
 #[derive(Clone, Copy)]
-struct Place(usize);
-
-impl Place {
-    fn act(self) -> Act {
-        match SCRIPT.get(self.0) {
-            Some(act) => *act,
-            None => Act::Sync,
-        }
-    }
+enum Call {
+    Next,
+    Open,
 }
-
-// A buffer, and the entry that it is to take.
-#[derive(Drop)]
-struct Taking<A: Allocator + Copy, D: Dir> {
-    heap: A,
-    buffer: Buffer<D, A>,
-    some: Entries<A>,
-}
-
-// What is answered; another fault than want of memory is told.
-fn answered(answer: Result<u64, BufferFault>, told: &mut Told) -> Result<(), AllocError> {
-    match answer {
-        Ok(number) => told.number(number),
-        Err(BufferFault::Memory) => return Err(AllocError),
-        Err(_) => told.number(77_777),
-    }
-    Ok(())
-}
-
-impl<A: Allocator + Copy, D: NewDir<A>> Trial<A, Place> for Taking<A, D> {
-    fn made(heap: A, call: &Place, told: &mut Told) -> Option<Self> {
-        let Ok(some) = entry(heap, number_of(call.act())) else {
-            return None;
-        };
-        match played(heap, call.0, told) {
-            Some(buffer) => Some(Taking { heap, buffer, some }),
-            None => None,
-        }
-    }
-
-    fn call(&mut self, call: &Place, told: &mut Told) -> Result<(), AllocError> {
-        let answer = take(&mut self.buffer, &self.some, call.act(), told);
-        answered(answer, told)
-    }
-
-    fn show(&mut self, told: &mut Told) {
-        tell_buffer(&mut self.buffer, told);
-    }
-
-    fn close(self, told: &mut Told) {
-        tell_left(self.heap, self.buffer.into_dir(), told);
-    }
-}
-
-// An opening of the folder that the calls before this place of the script leave.
-#[derive(Clone, Copy)]
-struct Opening(usize);
 
 // A folder, or the buffer that was opened in it.
 #[derive(Drop)]
-enum Found<A: Allocator + Copy, D: Dir> {
+enum Found<A: Allocator, D: Dir> {
     Folder(D),
     Buffer(Buffer<D, A>),
     Nothing,
 }
 
-// A folder to open, by the allocator that the buffer is to have.
-#[derive(Drop)]
-struct Folder<A: Allocator + Copy, D: Dir> {
+// A folder or a buffer, the call at a place of the script, and the entries that it appends.
+struct Site<A: Allocator, D: Dir> {
     heap: A,
-    opened: Found<A, D>,
+    act: Act,
+    some: Entries<A>,
+    found: Found<A, D>,
 }
 
-// Opens the folder. What comes of it, and its answer.
-fn opened<A: Allocator + Copy, D: Dir>(heap: A, dir: D) -> (Found<A, D>, Result<u64, BufferFault>) {
-    match open(heap, dir, WIDE, RENEWED_PAST_IN_MEMORY) {
-        Ok(buffer) => (Found::Buffer(buffer), Ok(0)),
-        Err((fault, dir)) => (Found::Folder(dir), Err(fault)),
+// What the call is tried on.
+fn found_for<A: Allocator + Copy, D: Dir>(buffer: Buffer<D, A>, call: Call) -> Found<A, D> {
+    match call {
+        Call::Next => Found::Buffer(buffer),
+        Call::Open => Found::Folder(buffer.into_dir()),
     }
 }
 
-impl<A: Allocator + Copy, D: NewDir<A>> Trial<A, Opening> for Folder<A, D> {
-    fn made(heap: A, call: &Opening, told: &mut Told) -> Option<Self> {
-        match played::<A, D>(heap, call.0, told) {
-            Some(buffer) => Some(Folder {
+// Opens the folder. What comes of it, and its answer; another fault than want of memory is told.
+fn opened<A: Allocator + Copy, D: Dir>(
+    heap: A,
+    dir: D,
+    told: &mut Told,
+) -> (Found<A, D>, Result<(), AllocError>) {
+    match open(heap, dir, WIDE, RENEWED_PAST_IN_MEMORY) {
+        Ok(buffer) => (Found::Buffer(buffer), Ok(())),
+        Err((BufferFault::Memory, dir)) => (Found::Folder(dir), Err(AllocError)),
+        Err((_, dir)) => {
+            told.number(77_777);
+            (Found::Folder(dir), Ok(()))
+        }
+    }
+}
+
+// Makes the call, or opens the folder. What there is then, and the answer.
+fn tried<A: Allocator + Copy, D: Dir>(
+    heap: A,
+    found: Found<A, D>,
+    act: Act,
+    some: &Entries<A>,
+    told: &mut Told,
+) -> (Found<A, D>, Result<(), AllocError>) {
+    match found {
+        Found::Folder(dir) => opened(heap, dir, told),
+        Found::Buffer(mut buffer) => {
+            let answer = tell_answer(take(&mut buffer, some, act), told);
+            (Found::Buffer(buffer), answer)
+        }
+        Found::Nothing => (Found::Nothing, Ok(())),
+    }
+}
+
+fn tell_found<A: Allocator + Copy, D: Dir + Drop>(heap: A, found: Found<A, D>, told: &mut Told) {
+    match found {
+        Found::Folder(dir) => tell_left(heap, dir, told),
+        Found::Buffer(buffer) => tell_left(heap, buffer.into_dir(), told),
+        Found::Nothing => told.number(66_666),
+    }
+}
+
+impl<A: Allocator + Copy, D: NewDir<A>> Trial<A, Call> for Site<A, D> {
+    fn made(heap: A, call: Call, behind: usize) -> Option<Self> {
+        let act = act_at(behind);
+        let Some(some) = entries(heap, count_of(act)) else {
+            return None;
+        };
+        match played_in(heap, D::made(heap), behind) {
+            Some(buffer) => Some(Site {
                 heap,
-                opened: Found::Folder(buffer.into_dir()),
+                act,
+                some,
+                found: found_for(buffer, call),
             }),
             None => None,
         }
     }
 
-    fn call(&mut self, _call: &Opening, told: &mut Told) -> Result<(), AllocError> {
-        let (found, answer) = match replace(&mut self.opened, Found::Nothing) {
-            Found::Folder(dir) => opened(self.heap, dir),
-            other => (other, Ok(0)),
-        };
-        self.opened = found;
-        answered(answer, told)
+    fn call(&mut self, _call: Call, told: &mut Told) -> Result<(), AllocError> {
+        let found = replace(&mut self.found, Found::Nothing);
+        let (found, answer) = tried(self.heap, found, self.act, &self.some, told);
+        self.found = found;
+        answer
     }
 
     fn show(&mut self, told: &mut Told) {
-        if let Found::Buffer(buffer) = &mut self.opened {
+        if let Found::Buffer(buffer) = &mut self.found {
             tell_buffer(buffer, told);
         }
     }
 
     fn close(self, told: &mut Told) {
-        let Folder { heap, opened } = self;
-        match opened {
-            Found::Folder(dir) => tell_left(heap, dir, told),
-            Found::Buffer(buffer) => tell_left(heap, buffer.into_dir(), told),
-            Found::Nothing => told.number(66_666),
-        }
+        let Site {
+            heap,
+            act: _,
+            some: _,
+            found,
+        } = self;
+        tell_found(heap, found, told);
     }
 }
 
-// The places of the script before which the folder is opened.
-static PLACES: [usize; 4] = [0, 1, 7, 25];
+// The kinds of calls that take memory, and the others.
+const KINDS: u8 = 7;
 
-// Which count is that of a call; none where it takes no memory.
-fn count_of(act: Act) -> Option<usize> {
+// Of which kind a call is.
+fn kind_of(act: Act) -> u8 {
     match act {
-        Act::Stage(..) => Some(0),
-        Act::Append(..) => Some(1),
-        Act::Enqueue(_) => Some(2),
-        Act::Purge(_) => Some(3),
-        Act::DropOldest => Some(4),
-        Act::Renew => Some(5),
-        Act::Body(_) => Some(6),
-        Act::Sync | Act::Claim | Act::GiveBack(_) => None,
+        Act::Stage(..) => 0,
+        Act::Append(..) => 1,
+        Act::Enqueue(_) => 2,
+        Act::Purge(_) => 3,
+        Act::DropOldest => 4,
+        Act::Renew => 5,
+        Act::Body(_) => 6,
+        _ => KINDS,
     }
 }
 
-// Counts the requests of a call. It answers whether one that takes no memory made none.
-fn count(counts: &mut [u64; 7], act: Act, requests: u64) -> bool {
-    let Some(place) = count_of(act) else {
-        return requests == 0;
-    };
-    if let Some(count) = counts.get_mut(place) {
-        *count = count.saturating_add(requests);
-    }
-    true
-}
-
-// Counts the requests of the call at this place; whether it makes none if it takes no memory.
-fn is_counted<R: Abort, H: Refuses, D: NewDir<H>>(
-    rt: &R,
-    alloc: Global,
-    heap: H,
-    place: usize,
-    counts: &mut [u64; 7],
-) -> bool {
-    let call = Place(place);
-    let requests = requests_of::<_, _, _, Taking<H, D>>(rt, alloc, heap, place, &call);
-    count(counts, call.act(), requests)
-}
-
-// Whether one of these is none.
-fn has_none(counts: &[u64; 7]) -> bool {
-    for requests in counts {
-        if *requests == 0 {
-            return true;
+// How many requests the calls of this kind make.
+fn requests_of_kind<R: Abort, H: Refuses, D: NewDir<H>>(rt: &R, heap: H, kind: u8) -> u64 {
+    let mut requests = 0u64;
+    for (place, act) in SCRIPT.iter().enumerate() {
+        if kind_of(*act) == kind {
+            let more = requests_of::<R, H, Call, Site<H, D>>(rt, heap, Call::Next, place);
+            requests = requests.saturating_add(more);
         }
     }
-    false
+    requests
 }
 
 /// Whether each kind of call that takes memory asks for it, and no other.
-pub fn calls_ask<R: Abort, H: Refuses, D: NewDir<H>>(rt: &R, alloc: Global, heap: H) -> bool {
-    let mut counts = [0; 7];
-    for place in 0..SCRIPT.len() {
-        if !is_counted::<R, H, D>(rt, alloc, heap, place, &mut counts) {
+pub fn calls_ask<R: Abort, H: Refuses, D: NewDir<H>>(rt: &R, heap: H) -> bool {
+    for kind in 0..KINDS {
+        if requests_of_kind::<R, H, D>(rt, heap, kind) == 0 {
             return false;
         }
     }
-    !has_none(&counts)
+    requests_of_kind::<R, H, D>(rt, heap, KINDS) == 0
 }
 
 #[test]
@@ -265,11 +240,13 @@ fn calls(rt: HostRuntime) {
     assert!(rt; in_memory(&rt, rt.alloc(), Part::Calls));
 }
 
+// The places of the script before which the folder is opened.
+static PLACES: [usize; 4] = [0, 1, 7, 25];
+
 /// Whether each opening asks for memory.
-pub fn openings_ask<R: Abort, H: Refuses, D: NewDir<H>>(rt: &R, alloc: Global, heap: H) -> bool {
+pub fn openings_ask<R: Abort, H: Refuses, D: NewDir<H>>(rt: &R, heap: H) -> bool {
     for place in &PLACES {
-        let call = Opening(*place);
-        if requests_of::<_, _, _, Folder<H, D>>(rt, alloc, heap, *place, &call) == 0 {
+        if requests_of::<R, H, Call, Site<H, D>>(rt, heap, Call::Open, *place) == 0 {
             return false;
         }
     }

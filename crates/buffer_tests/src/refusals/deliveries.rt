@@ -1,13 +1,13 @@
-//! Deliveries are begun, room is made for answers, and books are audited.
+//! Deliveries are begun, and room is made for answers.
 
+use crate::refusals::parts::{Part, in_memory};
 use crate::refusals::reading::tell_message;
-use crate::refusals::shop::{LEAF, message};
 use crate::refusals::told::Told;
-use crate::refusals::trial::{Heap, Trial, requests_of};
+use crate::refusals::trial::{Refuses, Trial, each_asks, requests_of};
+use crate::shelves::{LEAF, message};
 use ack_receipt::{Delivery, Numbers, Reserved, Unbegun};
 use event_modes::Message;
-use refusing_alloc::Refusing;
-use std::alloc::{AllocError, AllocFailed, Allocator, Global};
+use std::alloc::{AllocError, AllocFailed, Allocator};
 use std::mem::replace;
 use std::process::Abort;
 
@@ -43,11 +43,18 @@ fn tell_delivery<A: Allocator>(delivery: &Delivery<A>, told: &mut Told) {
 }
 
 fn parts<A: Allocator + Copy>(heap: A) -> Option<Unbegun<A>> {
-    Some(Unbegun {
-        number: Numbers::new().draw()?,
-        message: message(heap, b'a', 1)?,
-        leaves: Vec::from_slice(heap, &[LEAF, LEAF]).ok()?,
-    })
+    let (Some(number), Ok(leaves)) = (Numbers::new().draw(), Vec::from_slice(heap, &[LEAF, LEAF]))
+    else {
+        return None;
+    };
+    match message(heap, b'a', 1) {
+        Some(message) => Some(Unbegun {
+            number,
+            message,
+            leaves,
+        }),
+        None => None,
+    }
 }
 
 fn begin<A: Allocator + Copy>(
@@ -79,7 +86,7 @@ fn try_to_begin<A: Allocator + Copy>(
 }
 
 impl<A: Allocator + Copy> Trial<A, Under> for Desk<A> {
-    fn made(heap: A, _call: &Under, _told: &mut Told) -> Option<Self> {
+    fn made(heap: A, _call: Under, _behind: usize) -> Option<Self> {
         match parts(heap) {
             Some(parts) => Some(Desk {
                 heap,
@@ -89,9 +96,9 @@ impl<A: Allocator + Copy> Trial<A, Under> for Desk<A> {
         }
     }
 
-    fn call(&mut self, call: &Under, _told: &mut Told) -> Result<(), AllocError> {
+    fn call(&mut self, call: Under, _told: &mut Told) -> Result<(), AllocError> {
         let (beginning, answer) = match replace(&mut self.beginning, Beginning::Nothing) {
-            Beginning::Parts(parts) => try_to_begin(self.heap, parts, *call),
+            Beginning::Parts(parts) => try_to_begin(self.heap, parts, call),
             other => (other, Ok(())),
         };
         end(replace(&mut self.beginning, beginning));
@@ -121,26 +128,25 @@ fn end<A: Allocator>(beginning: Beginning<A>) {
     }
 }
 
-// Room for the answer to a message.
-struct Room;
-
-#[derive(Drop)]
+// Room is made for the answer to a message.
 struct Asked<A: Allocator> {
     heap: A,
     message: Message<A>,
 }
 
-impl<A: Allocator + Copy> Trial<A, Room> for Asked<A> {
-    fn made(heap: A, _call: &Room, _told: &mut Told) -> Option<Self> {
+impl<A: Allocator + Copy> Trial<A, ()> for Asked<A> {
+    fn made(heap: A, _call: (), _behind: usize) -> Option<Self> {
         match message(heap, b'a', 1) {
             Some(message) => Some(Asked { heap, message }),
             None => None,
         }
     }
 
-    fn call(&mut self, _call: &Room, told: &mut Told) -> Result<(), AllocError> {
-        let reserved = Reserved::for_message(self.heap, &self.message)?;
-        told.number(u64::from(reserved.answer().is_none()));
+    fn call(&mut self, _call: (), told: &mut Told) -> Result<(), AllocError> {
+        match Reserved::for_message(self.heap, &self.message) {
+            Ok(reserved) => told.number(u64::from(reserved.answer().is_none())),
+            Err(AllocError) => return Err(AllocError),
+        }
         Ok(())
     }
 
@@ -148,34 +154,34 @@ impl<A: Allocator + Copy> Trial<A, Room> for Asked<A> {
         tell_message(&self.message, told);
     }
 
-    fn close(self, _told: &mut Told) {}
+    fn close(self, _told: &mut Told) {
+        let Asked {
+            heap: _,
+            message: _,
+        } = self;
+    }
 }
 
 static UNDER: [Under; 2] = [Under::Own, Under::Other];
 
-static ROOM: Room = Room;
+static ONCE: [usize; 1] = [0];
 
-// Whether each asks for memory.
-fn each_asks<R: Abort>(rt: &R, alloc: Global, heap: Heap<'_>) -> bool {
-    for (number, under) in UNDER.iter().enumerate() {
-        if requests_of::<_, _, _, Desk<Heap<'_>>>(rt, alloc, heap, number, under) < 2 {
-            return false;
-        }
-    }
-    true
+/// Whether each asks for memory.
+pub fn deliveries_ask<R: Abort, H: Refuses>(rt: &R, heap: H) -> bool {
+    each_asks::<R, H, Under, Desk<H>>(rt, heap, &UNDER, &ONCE, 2)
 }
 
 #[test]
 fn deliveries(rt: HostRuntime) {
-    assert!(rt; each_asks(&rt, rt.alloc(), &Refusing::new(rt.alloc())));
+    assert!(rt; in_memory(&rt, rt.alloc(), Part::Deliveries));
 }
 
-// Whether room for an answer asks for memory.
-fn room_asks<R: Abort>(rt: &R, alloc: Global, heap: Heap<'_>) -> bool {
-    requests_of::<_, _, _, Asked<Heap<'_>>>(rt, alloc, heap, 0, &ROOM) > 2
+/// Whether room for an answer asks for memory.
+pub fn rooms_ask<R: Abort, H: Refuses>(rt: &R, heap: H) -> bool {
+    requests_of::<R, H, (), Asked<H>>(rt, heap, (), 0) > 2
 }
 
 #[test]
 fn rooms(rt: HostRuntime) {
-    assert!(rt; room_asks(&rt, rt.alloc(), &Refusing::new(rt.alloc())));
+    assert!(rt; in_memory(&rt, rt.alloc(), Part::Rooms));
 }

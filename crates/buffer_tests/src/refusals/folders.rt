@@ -4,10 +4,10 @@ use crate::devices::NewDir;
 use crate::refusals::files::tell_left;
 use crate::refusals::parts::{Part, in_memory};
 use crate::refusals::told::Told;
-use crate::refusals::trial::{Refuses, Trial, requests_of};
+use crate::refusals::trial::{Refuses, Trial, each_asks, requests_behind};
 use disk_files::{Dir, DirError, FileName, Writing};
 use numbered_files::{Family, numbers, read_file};
-use std::alloc::{AllocError, Allocator, Global};
+use std::alloc::{AllocError, Allocator};
 use std::process::Abort;
 
 // A call of a folder, or one that looks into it.
@@ -23,9 +23,9 @@ enum Act {
     NameOf,
 }
 
-static ACTS: [Act; 8] = [
+// All but an opening: a folder in memory opens its files without a request.
+static ACTS: [Act; 7] = [
     Act::Create,
-    Act::Open,
     Act::Reserve,
     Act::List,
     Act::Numbers,
@@ -116,51 +116,48 @@ fn take<A: Allocator + Copy, D: Dir>(
     }
 }
 
-// A call in a folder with so many files, the first of which has so many bytes.
-#[derive(Clone, Copy)]
-struct Calling {
-    act: Act,
-    files: u32,
-}
-
-#[derive(Drop)]
-struct Folder<A: Drop, D> {
+struct Folder<A, D> {
     heap: A,
     dir: D,
 }
 
+// Further files of a folder.
+static NAMES: [&[u8]; 7] = [
+    b"buf.0000000002.sink",
+    b"buf.0000000003.sink",
+    b"buf.0000000004.sink",
+    b"buf.0000000005.sink",
+    b"buf.0000000006.sink",
+    b"buf.0000000007.sink",
+    b"buf.0000000008.sink",
+];
+
 // The first file.
 fn begin<D: Dir>(dir: &mut D) -> Result<(), DirError> {
     let first = dir.create(b"buf.0000000001.sink", 9)?;
-    dir.append(first, b"nine byte", Writing::Through)?;
-    Ok(())
+    dir.append(first, b"nine byte", Writing::Through)
 }
 
-// The file of this number, which isn't there yet.
-fn create<A: Allocator + Copy, D: Dir>(heap: A, dir: &mut D, number: u32) -> Result<(), DirError> {
-    let name = family().name(heap, number)?;
-    created(dir, &name, 0)
-}
-
-fn fill<A: Allocator + Copy, D: Dir>(heap: A, dir: &mut D, files: u32) -> Result<(), DirError> {
-    begin(dir)?;
-    for number in 2..files {
-        create(heap, dir, number)?;
+// The first file, and so many further ones.
+fn fill<D: Dir>(dir: &mut D, files: usize) -> Result<(), DirError> {
+    for name in NAMES.iter().take(files) {
+        created(dir, name, 0)?;
     }
-    Ok(())
+    begin(dir)
 }
 
-impl<A: Allocator + Copy, D: NewDir<A>> Trial<A, Calling> for Folder<A, D> {
-    fn made(heap: A, call: &Calling, _told: &mut Told) -> Option<Self> {
+impl<A: Allocator + Copy, D: NewDir<A>> Trial<A, Act> for Folder<A, D> {
+    // A folder with a file, and so many further ones.
+    fn made(heap: A, _act: Act, behind: usize) -> Option<Self> {
         let mut dir = D::made(heap);
-        match fill(heap, &mut dir, call.files) {
+        match fill(&mut dir, behind) {
             Ok(()) => Some(Folder { heap, dir }),
             Err(_) => None,
         }
     }
 
-    fn call(&mut self, call: &Calling, told: &mut Told) -> Result<(), AllocError> {
-        match take(self.heap, &mut self.dir, call.act, told) {
+    fn call(&mut self, act: Act, told: &mut Told) -> Result<(), AllocError> {
+        match take(self.heap, &mut self.dir, act, told) {
             Ok(()) => {}
             Err(DirError::Memory) => return Err(AllocError),
             Err(_) => told.number(77_777),
@@ -178,35 +175,13 @@ impl<A: Allocator + Copy, D: NewDir<A>> Trial<A, Calling> for Folder<A, D> {
     }
 }
 
-// A folder with some of these numbers of files has room for one more, and with others not.
-static FILES: [u32; 6] = [0, 1, 4, 5, 8, 9];
+// A folder with some of these numbers of further files has room for one more, and with others not.
+static FILES: [usize; 5] = [0, 2, 3, 6, 7];
 
-// How many requests it makes, with each of these numbers of files.
-fn with_each<R: Abort, H: Refuses, D: NewDir<H>>(
-    rt: &R,
-    alloc: Global,
-    heap: H,
-    number: usize,
-    act: Act,
-) -> u64 {
-    let mut requests = 0u64;
-    for files in &FILES {
-        let call = Calling { act, files: *files };
-        let more = requests_of::<_, _, _, Folder<H, D>>(rt, alloc, heap, number, &call);
-        requests = requests.saturating_add(more);
-    }
-    requests
-}
-
-/// Whether all calls ask for memory, but for an opening: a folder in memory opens its files without
-/// it.
-pub fn all_ask<R: Abort, H: Refuses, D: NewDir<H>>(rt: &R, alloc: Global, heap: H) -> bool {
-    for (number, act) in ACTS.iter().enumerate() {
-        if with_each::<R, H, D>(rt, alloc, heap, number, *act) < 2 && !matches!(act, Act::Open) {
-            return false;
-        }
-    }
-    true
+/// Whether all calls ask for memory, but for an opening.
+pub fn ask<R: Abort, H: Refuses, D: NewDir<H>>(rt: &R, heap: H) -> bool {
+    let _ = requests_behind::<R, H, Act, Folder<H, D>>(rt, heap, Act::Open, &FILES);
+    each_asks::<R, H, Act, Folder<H, D>>(rt, heap, &ACTS, &FILES, 2)
 }
 
 #[test]

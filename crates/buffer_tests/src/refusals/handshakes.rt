@@ -1,11 +1,11 @@
 //! HELO, PING and PONG are taken and written.
 
+use crate::refusals::parts::{Part, in_memory};
 use crate::refusals::putting::{LENGTHS, xs};
 use crate::refusals::told::Told;
-use crate::refusals::trial::{Heap, Trial, requests_of};
+use crate::refusals::trial::{Refuses, Trial, each_asks};
 use auth_handshake::{Client, HeloError, Ping, Server};
-use refusing_alloc::Refusing;
-use std::alloc::{AllocError, Allocator, Global};
+use std::alloc::{AllocError, Allocator};
 use std::process::Abort;
 
 // A call of one of two ends that share a key.
@@ -31,13 +31,6 @@ static CALLS: [Call; 7] = [
     Call::NoPing(b"\xc0"),
     Call::NoPing(b"\x96\xa4PING\xa1h\xa1s\xa1d\xa0\xa0"),
 ];
-
-// A call that writes behind so many bytes.
-#[derive(Clone, Copy)]
-struct Calling {
-    call: Call,
-    behind: usize,
-}
 
 // Both ends, what the one wrote before, and what the call writes.
 #[derive(Drop)]
@@ -136,9 +129,10 @@ fn take<A: Allocator + Copy>(
     }
 }
 
-impl<A: Allocator + Copy> Trial<A, Calling> for Ends<A> {
-    fn made(heap: A, call: &Calling, _told: &mut Told) -> Option<Self> {
-        let Some(out) = xs(heap, call.behind) else {
+impl<A: Allocator + Copy> Trial<A, Call> for Ends<A> {
+    // What the call writes stands behind so many bytes.
+    fn made(heap: A, _call: Call, behind: usize) -> Option<Self> {
+        let Some(out) = xs(heap, behind) else {
             return None;
         };
         let Some(mut ends) = new_ends(heap, out) else {
@@ -150,8 +144,8 @@ impl<A: Allocator + Copy> Trial<A, Calling> for Ends<A> {
         }
     }
 
-    fn call(&mut self, call: &Calling, told: &mut Told) -> Result<(), AllocError> {
-        take(self, call.call, told)
+    fn call(&mut self, call: Call, told: &mut Told) -> Result<(), AllocError> {
+        take(self, call, told)
     }
 
     fn show(&mut self, told: &mut Told) {
@@ -168,31 +162,12 @@ impl<A: Allocator + Copy> Trial<A, Calling> for Ends<A> {
     }
 }
 
-// How many requests it makes, behind each of these numbers of bytes.
-fn behind_each<R: Abort>(rt: &R, alloc: Global, heap: Heap<'_>, number: usize, call: Call) -> u64 {
-    let mut requests = 0u64;
-    for behind in &LENGTHS {
-        let calling = Calling {
-            call,
-            behind: *behind,
-        };
-        let more = requests_of::<_, _, _, Ends<Heap<'_>>>(rt, alloc, heap, number, &calling);
-        requests = requests.saturating_add(more);
-    }
-    requests
-}
-
-// Whether each call asks for memory.
-fn each_asks<R: Abort>(rt: &R, alloc: Global, heap: Heap<'_>) -> bool {
-    for (number, call) in CALLS.iter().enumerate() {
-        if behind_each(rt, alloc, heap, number, *call) < 2 {
-            return false;
-        }
-    }
-    true
+/// Whether each call asks for memory.
+pub fn ask<R: Abort, H: Refuses>(rt: &R, heap: H) -> bool {
+    each_asks::<R, H, Call, Ends<H>>(rt, heap, &CALLS, &LENGTHS, 2)
 }
 
 #[test]
 fn handshakes(rt: HostRuntime) {
-    assert!(rt; each_asks(&rt, rt.alloc(), &Refusing::new(rt.alloc())));
+    assert!(rt; in_memory(&rt, rt.alloc(), Part::Handshakes));
 }

@@ -1,34 +1,21 @@
-//! Journals are written and replayed, whole and by pieces, and the items of a sink's file are
-//! counted.
+//! Journals are replayed by pieces.
 
-use crate::refusals::putting::{Written, make_written};
-use crate::refusals::reading::Reader;
+use crate::refusals::parts::{Part, in_memory};
 use crate::refusals::told::Told;
-use crate::refusals::trial::{Heap, Trial, requests_of};
+use crate::refusals::trial::{Refuses, Trial, requests_behind};
 use buffer_state::{Chunks, Stage};
-use chunk_journal::{Outline, Outlined, Record, ReplayError, put_record, replay};
-use event_modes::Entries;
-use refusing_alloc::Refusing;
-use sink_series::count_events;
-use std::alloc::{AllocError, Allocator, Global};
+use chunk_journal::{Outline, Outlined, ReplayError};
+use std::alloc::{AllocError, Allocator};
 use std::mem::replace;
 use std::process::Abort;
 
-// Three chunks, of which one is queued, a Seal of 9, two chunks more, an entry more, a queueing and
-// a removal.
-static JOURNAL: &[u8] =
+/// Three chunks, of which one is queued, a Seal of 9, two chunks more, an entry more, a queueing and
+/// a removal.
+pub static JOURNAL: &[u8] =
     b"\0\0\0\x13\x02\0\0\0\0\0\0\0\x00\0\x01a\0\0\0\x01\x92\x01\x80\0\0\0\x09\x03\0\0\0\0\0\0\0\0\0\0\0\x13\x02\0\0\0\0\0\0\0\x03\0\x01b\0\0\0\x01\x92\x02\x80\0\0\0\x13\x02\0\0\0\0\0\0\0\x05\0\x01c\0\0\0\x01\x92\x03\x80\0\0\0\x09\x01\0\0\0\0\0\0\0\x09\0\0\0\x13\x02\0\0\0\0\0\0\0\x09\0\x01d\0\0\0\x01\x92\x04\x80\0\0\0\x13\x02\0\0\0\0\0\0\0\x0a\0\x01e\0\0\0\x01\x92\x05\x80\0\0\0\x13\x02\0\0\0\0\0\0\0\x0a\0\x01e\0\0\0\x01\x92\x06\x80\0\0\0\x09\x03\0\0\0\0\0\0\0\x09\0\0\0\x09\x04\0\0\0\0\0\0\0\0";
 
-static ITEMS: &[u8] = b"\x93\xa1a\x01\x80\x93\xa1b\x02\x80\x93\xa1c\x03\x80\x93";
-
-// A call that makes what it gives anew.
-#[derive(Clone, Copy)]
-enum Reading {
-    Replay,
-    Count,
-}
-
-fn tell_chunks<A: Allocator + Copy>(chunks: &Chunks<A>, told: &mut Told) {
+/// Tells chunks, and the next serial.
+pub fn tell_chunks<A: Allocator + Copy>(chunks: &Chunks<A>, told: &mut Told) {
     told.number(chunks.next());
     for (serial, chunk) in chunks.live() {
         told.number(*serial);
@@ -38,7 +25,8 @@ fn tell_chunks<A: Allocator + Copy>(chunks: &Chunks<A>, told: &mut Told) {
     }
 }
 
-fn fault_of(fault: ReplayError, told: &mut Told) -> Result<(), AllocError> {
+/// Tells why a journal isn't replayed. The error is want of memory.
+pub fn fault_of(fault: ReplayError, told: &mut Told) -> Result<(), AllocError> {
     match fault {
         ReplayError::Memory => return Err(AllocError),
         ReplayError::NotSealed => told.number(11_111),
@@ -47,46 +35,22 @@ fn fault_of(fault: ReplayError, told: &mut Told) -> Result<(), AllocError> {
     Ok(())
 }
 
-fn replayed<A: Allocator + Copy>(heap: A, told: &mut Told) -> Result<(), AllocError> {
-    match replay(heap, JOURNAL) {
-        Ok(replayed) => {
-            tell_chunks(&replayed.chunks, told);
-            told.number(replayed.used as u64);
-            Ok(())
-        }
-        Err(fault) => fault_of(fault, told),
-    }
-}
-
-fn count_items<A: Allocator + Copy>(heap: A, told: &mut Told) -> Result<(), AllocError> {
-    let counted = count_events(heap, ITEMS)?;
-    told.number(counted.events as u64);
-    Ok(())
-}
-
-impl<A: Allocator + Copy> Trial<A, Reading> for Reader<A> {
-    fn made(heap: A, _call: &Reading, _told: &mut Told) -> Option<Self> {
-        Some(Reader(heap))
-    }
-
-    fn call(&mut self, call: &Reading, told: &mut Told) -> Result<(), AllocError> {
-        match call {
-            Reading::Replay => replayed(self.0, told),
-            Reading::Count => count_items(self.0, told),
-        }
-    }
-
-    fn show(&mut self, _told: &mut Told) {}
-
-    fn close(self, _told: &mut Told) {}
-}
-
-// A journal comes by pieces, up to this place, and all that is behind it is fed then; or it is
+// A journal comes by pieces, so much of it, and all that is behind it is fed then; or it is
 // finished behind few pieces.
 #[derive(Clone, Copy)]
 enum Outlining {
-    Feed(usize),
+    Feed,
     Finish,
+}
+
+impl Outlining {
+    // How long the pieces are.
+    fn size(self) -> usize {
+        match self {
+            Outlining::Feed => 7,
+            Outlining::Finish => 255,
+        }
+    }
 }
 
 // An outline, or what it gave.
@@ -115,12 +79,11 @@ fn feed<A: Allocator + Copy>(
 fn feed_front<A: Allocator + Copy>(
     outline: &mut Outline<A>,
     place: usize,
-    size: u8,
-    told: &mut Told,
+    size: usize,
 ) -> Result<(), AllocError> {
     let (front, _) = JOURNAL.split_at(place.min(JOURNAL.len()));
-    for piece in front.chunks(usize::from(size.max(1))) {
-        if feed(outline, piece, told).is_err() {
+    for piece in front.chunks(size.max(1)) {
+        if feed(outline, piece, &mut Told::new()).is_err() {
             return Err(AllocError);
         }
     }
@@ -128,14 +91,9 @@ fn feed_front<A: Allocator + Copy>(
 }
 
 // What was fed so.
-fn fed<A: Allocator + Copy>(
-    heap: A,
-    place: usize,
-    size: u8,
-    told: &mut Told,
-) -> Option<Outline<A>> {
+fn fed<A: Allocator + Copy>(heap: A, place: usize, size: usize) -> Option<Outline<A>> {
     let mut outline = Outline::new(heap);
-    match feed_front(&mut outline, place, size, told) {
+    match feed_front(&mut outline, place, size) {
         Ok(()) => Some(outline),
         Err(AllocError) => None,
     }
@@ -178,7 +136,7 @@ fn go_on<A: Allocator + Copy>(
     told: &mut Told,
 ) -> (Drawn<A>, Result<(), AllocError>) {
     match outlining {
-        Outlining::Feed(_) => {
+        Outlining::Feed => {
             let mut outline = outline;
             let answer = feed_rest(&mut outline, told);
             (Drawn::Open(outline), answer)
@@ -188,20 +146,16 @@ fn go_on<A: Allocator + Copy>(
 }
 
 impl<A: Allocator + Copy> Trial<A, Outlining> for Drawn<A> {
-    fn made(heap: A, call: &Outlining, told: &mut Told) -> Option<Self> {
-        let outline = match *call {
-            Outlining::Feed(place) => fed(heap, place, 7, told),
-            Outlining::Finish => fed(heap, JOURNAL.len(), u8::MAX, told),
-        };
-        match outline {
+    fn made(heap: A, call: Outlining, behind: usize) -> Option<Self> {
+        match fed(heap, behind, call.size()) {
             Some(outline) => Some(Drawn::Open(outline)),
             None => None,
         }
     }
 
-    fn call(&mut self, call: &Outlining, told: &mut Told) -> Result<(), AllocError> {
+    fn call(&mut self, call: Outlining, told: &mut Told) -> Result<(), AllocError> {
         let (left, answer) = match replace(self, Drawn::Nothing) {
-            Drawn::Open(outline) => go_on(outline, *call, told),
+            Drawn::Open(outline) => go_on(outline, call, told),
             other => (other, Ok(())),
         };
         *self = left;
@@ -233,108 +187,19 @@ fn tell_whole<A: Allocator + Copy>(outline: Outline<A>, told: &mut Told) {
     }
 }
 
-// A record of this kind, behind so many bytes.
-#[derive(Clone, Copy)]
-struct Recording {
-    kind: u8,
-    behind: usize,
-}
-
-fn put<A: Allocator + Copy>(
-    out: &mut Vec<u8, A>,
-    entries: &Entries<A>,
-    kind: u8,
-) -> Result<(), AllocError> {
-    let record: Record<'_, A> = match kind {
-        1 => Record::Seal { next: 9 },
-        3 => Record::Queue { serial: 3 },
-        4 => Record::Purge { serial: 3 },
-        _ if entries.as_bytes().len() < 99 => Record::Append {
-            serial: 3,
-            tag: b"tag",
-            entries,
-        },
-        _ => return Ok(()),
-    };
-    put_record(out, &record)
-}
-
-impl<A: Allocator + Copy> Trial<A, Recording> for Written<A> {
-    fn made(heap: A, call: &Recording, _told: &mut Told) -> Option<Self> {
-        make_written(heap, call.behind)
-    }
-
-    fn call(&mut self, call: &Recording, _told: &mut Told) -> Result<(), AllocError> {
-        put(&mut self.out, &self.entries, call.kind)
-    }
-
-    fn show(&mut self, told: &mut Told) {
-        told.bytes(&self.out);
-    }
-
-    fn close(self, _told: &mut Told) {}
-}
-
 // How much of the journal was fed before, by pieces.
 static PLACES: [usize; 9] = [0, 7, 21, 42, 63, 84, 105, 140, 175];
 
-// A list of some of these lengths has room, and of others not.
-static LENGTHS: [usize; 7] = [0, 8, 16, 30, 32, 60, 64];
+// All of it.
+static ALL: [usize; 1] = [190];
 
-// Whether this asks for memory.
-fn asks<R: Abort>(rt: &R, alloc: Global, heap: Heap<'_>, call: Reading) -> bool {
-    requests_of::<_, _, _, Reader<Heap<'_>>>(rt, alloc, heap, 0, &call) > 1
-}
-
-// Whether both do.
-fn both_ask<R: Abort>(rt: &R, alloc: Global, heap: Heap<'_>) -> bool {
-    asks(rt, alloc, heap, Reading::Replay) && asks(rt, alloc, heap, Reading::Count)
-}
-
-#[test]
-fn bytes_that_are_read(rt: HostRuntime) {
-    assert!(rt; both_ask(&rt, rt.alloc(), &Refusing::new(rt.alloc())));
-}
-
-// Feeds an outline from each of these places, and says whether finishing it asks for memory.
-fn outlines_ask<R: Abort>(rt: &R, alloc: Global, heap: Heap<'_>) -> bool {
-    for place in &PLACES {
-        let call = Outlining::Feed(*place);
-        let _ = requests_of::<_, _, _, Drawn<Heap<'_>>>(rt, alloc, heap, *place, &call);
-    }
-    requests_of::<_, _, _, Drawn<Heap<'_>>>(rt, alloc, heap, 999, &Outlining::Finish) > 0
+/// Feeds an outline from each of these places, and says whether finishing it asks for memory.
+pub fn ask<R: Abort, H: Refuses>(rt: &R, heap: H) -> bool {
+    let _ = requests_behind::<R, H, Outlining, Drawn<H>>(rt, heap, Outlining::Feed, &PLACES);
+    requests_behind::<R, H, Outlining, Drawn<H>>(rt, heap, Outlining::Finish, &ALL) > 0
 }
 
 #[test]
 fn outlines(rt: HostRuntime) {
-    assert!(rt; outlines_ask(&rt, rt.alloc(), &Refusing::new(rt.alloc())));
-}
-
-// How many requests a record of this kind makes, behind each of these numbers of bytes.
-fn behind_each<R: Abort>(rt: &R, alloc: Global, heap: Heap<'_>, kind: u8) -> u64 {
-    let mut requests = 0u64;
-    for behind in &LENGTHS {
-        let call = Recording {
-            kind,
-            behind: *behind,
-        };
-        let more = requests_of::<_, _, _, Written<Heap<'_>>>(rt, alloc, heap, *behind, &call);
-        requests = requests.saturating_add(more);
-    }
-    requests
-}
-
-// Whether each kind asks for memory.
-fn records_ask<R: Abort>(rt: &R, alloc: Global, heap: Heap<'_>) -> bool {
-    for kind in 1..5u8 {
-        if behind_each(rt, alloc, heap, kind) < 2 {
-            return false;
-        }
-    }
-    true
-}
-
-#[test]
-fn records(rt: HostRuntime) {
-    assert!(rt; records_ask(&rt, rt.alloc(), &Refusing::new(rt.alloc())));
+    assert!(rt; in_memory(&rt, rt.alloc(), Part::Outlines));
 }

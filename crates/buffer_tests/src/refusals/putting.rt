@@ -1,12 +1,13 @@
 //! Bytes are written behind others, of which there are so many that each growth comes once.
 
-use crate::refusals::acts::entry;
+use crate::refusals::parts::{Part, in_memory};
 use crate::refusals::told::Told;
-use crate::refusals::trial::{Heap, Trial, requests_of};
+use crate::refusals::trial::{Refuses, Trial, each_asks, requests_behind};
+use crate::script::entries;
+use chunk_journal::{Record, put_record};
 use event_modes::{ChunkId, Entries, put_ack, put_packed};
 use msgpack_bytes::{put_array, put_bin, put_bool, put_map, put_str, put_uint};
-use refusing_alloc::Refusing;
-use std::alloc::{AllocError, Allocator, Global};
+use std::alloc::{AllocError, Allocator};
 use std::process::Abort;
 
 // What is written.
@@ -21,6 +22,8 @@ enum Put {
     Ack(&'static [u8]),
     // A message, with a chunk or without.
     Packed(Option<ChunkId>),
+    // A record of this kind.
+    Record(u8),
 }
 
 static ID: ChunkId = ChunkId {
@@ -29,7 +32,7 @@ static ID: ChunkId = ChunkId {
     serial: 3,
 };
 
-static PUTS: [Put; 9] = [
+static PUTS: [Put; 13] = [
     Put::Uint(70_000),
     Put::Str(b"a text of some bytes"),
     Put::Bin(b"\0\x01\x02"),
@@ -39,14 +42,11 @@ static PUTS: [Put; 9] = [
     Put::Ack(b"\xa2c1"),
     Put::Packed(None),
     Put::Packed(Some(ID)),
+    Put::Record(1),
+    Put::Record(2),
+    Put::Record(3),
+    Put::Record(4),
 ];
-
-// What is written behind so many bytes.
-#[derive(Clone, Copy)]
-struct Putting {
-    put: Put,
-    behind: usize,
-}
 
 /// So many bytes.
 pub fn xs<A: Allocator>(heap: A, count: usize) -> Option<Vec<u8, A>> {
@@ -59,19 +59,10 @@ pub fn xs<A: Allocator>(heap: A, count: usize) -> Option<Vec<u8, A>> {
     Some(out)
 }
 
-/// What is written, and the entries of messages and records.
-#[derive(Drop)]
-pub struct Written<A: Allocator> {
-    pub out: Vec<u8, A>,
-    pub entries: Entries<A>,
-}
-
-/// So many bytes, and one entry.
-pub fn make_written<A: Allocator + Copy>(heap: A, behind: usize) -> Option<Written<A>> {
-    match (xs(heap, behind), entry(heap, 1)) {
-        (Some(out), Ok(entries)) => Some(Written { out, entries }),
-        _ => None,
-    }
+// What is written, and the entries of messages and records.
+struct Written<A: Allocator> {
+    out: Vec<u8, A>,
+    entries: Entries<A>,
 }
 
 fn put_message<A: Allocator + Copy>(
@@ -83,6 +74,25 @@ fn put_message<A: Allocator + Copy>(
         return Ok(());
     }
     put_packed(out, b"a", entries, chunk)
+}
+
+fn put_kind<A: Allocator + Copy>(
+    out: &mut Vec<u8, A>,
+    entries: &Entries<A>,
+    kind: u8,
+) -> Result<(), AllocError> {
+    let record: Record<'_, A> = match kind {
+        1 => Record::Seal { next: 9 },
+        3 => Record::Queue { serial: 3 },
+        4 => Record::Purge { serial: 3 },
+        _ if entries.as_bytes().len() < 99 => Record::Append {
+            serial: 3,
+            tag: b"tag",
+            entries,
+        },
+        _ => return Ok(()),
+    };
+    put_record(out, &record)
 }
 
 fn put_so<A: Allocator + Copy>(
@@ -99,61 +109,48 @@ fn put_so<A: Allocator + Copy>(
         Put::Bool(value) => put_bool(out, value),
         Put::Ack(item) => put_ack(out, item),
         Put::Packed(chunk) => put_message(out, entries, chunk.as_ref()),
+        Put::Record(kind) => put_kind(out, entries, kind),
         Put::Str(_) | Put::Bin(_) => Ok(()),
     }
 }
 
-impl<A: Allocator + Copy> Trial<A, Putting> for Written<A> {
-    fn made(heap: A, call: &Putting, _told: &mut Told) -> Option<Self> {
-        make_written(heap, call.behind)
+impl<A: Allocator + Copy> Trial<A, Put> for Written<A> {
+    // So many bytes, and one entry.
+    fn made(heap: A, _put: Put, behind: usize) -> Option<Self> {
+        match (xs(heap, behind), entries(heap, 1)) {
+            (Some(out), Some(entries)) => Some(Written { out, entries }),
+            _ => None,
+        }
     }
 
-    fn call(&mut self, call: &Putting, _told: &mut Told) -> Result<(), AllocError> {
-        put_so(&mut self.out, &self.entries, call.put)
+    fn call(&mut self, put: Put, _told: &mut Told) -> Result<(), AllocError> {
+        put_so(&mut self.out, &self.entries, put)
     }
 
     fn show(&mut self, told: &mut Told) {
         told.bytes(&self.out);
     }
 
-    fn close(self, _told: &mut Told) {}
+    fn close(self, _told: &mut Told) {
+        let Written { out: _, entries: _ } = self;
+    }
 }
 
-// So many entries, behind which one is appended.
-#[derive(Clone, Copy)]
-struct Appending(usize);
-
-#[derive(Drop)]
+// Entries, behind which one is appended.
 struct Entered<A: Allocator> {
     all: Entries<A>,
     one: Entries<A>,
 }
 
-// The entry so many times.
-fn times<A: Allocator + Copy>(
-    heap: A,
-    one: &Entries<A>,
-    count: usize,
-) -> Result<Entries<A>, AllocError> {
-    let mut all = Entries::new(heap);
-    for _ in 0..count {
-        all.append(one)?;
-    }
-    Ok(all)
-}
-
-impl<A: Allocator + Copy> Trial<A, Appending> for Entered<A> {
-    fn made(heap: A, call: &Appending, _told: &mut Told) -> Option<Self> {
-        let Ok(one) = entry(heap, 1) else {
-            return None;
-        };
-        match times(heap, &one, call.0) {
-            Ok(all) => Some(Entered { all, one }),
-            Err(AllocError) => None,
+impl<A: Allocator + Copy> Trial<A, ()> for Entered<A> {
+    fn made(heap: A, _call: (), behind: usize) -> Option<Self> {
+        match (entries(heap, behind), entries(heap, 1)) {
+            (Some(all), Some(one)) => Some(Entered { all, one }),
+            _ => None,
         }
     }
 
-    fn call(&mut self, _call: &Appending, _told: &mut Told) -> Result<(), AllocError> {
+    fn call(&mut self, _call: (), _told: &mut Told) -> Result<(), AllocError> {
         self.all.append(&self.one)
     }
 
@@ -162,53 +159,30 @@ impl<A: Allocator + Copy> Trial<A, Appending> for Entered<A> {
         told.number(self.all.count() as u64);
     }
 
-    fn close(self, _told: &mut Told) {}
+    fn close(self, _told: &mut Told) {
+        let Entered { all: _, one: _ } = self;
+    }
 }
 
 /// A list of some of these lengths has room, and of others not.
 pub static LENGTHS: [usize; 8] = [0, 5, 8, 16, 30, 32, 60, 64];
 
-// How many requests it makes, behind each of these numbers of bytes.
-fn behind_each<R: Abort>(rt: &R, alloc: Global, heap: Heap<'_>, number: usize, put: Put) -> u64 {
-    let mut requests = 0u64;
-    for behind in &LENGTHS {
-        let putting = Putting {
-            put,
-            behind: *behind,
-        };
-        let more = requests_of::<_, _, _, Written<Heap<'_>>>(rt, alloc, heap, number, &putting);
-        requests = requests.saturating_add(more);
-    }
-    requests
-}
-
-// Whether each asks for memory.
-fn each_asks<R: Abort>(rt: &R, alloc: Global, heap: Heap<'_>) -> bool {
-    for (number, put) in PUTS.iter().enumerate() {
-        if behind_each(rt, alloc, heap, number, *put) < 2 {
-            return false;
-        }
-    }
-    true
+/// Whether each asks for memory.
+pub fn each_put_asks<R: Abort, H: Refuses>(rt: &R, heap: H) -> bool {
+    each_asks::<R, H, Put, Written<H>>(rt, heap, &PUTS, &LENGTHS, 2)
 }
 
 #[test]
 fn spellings(rt: HostRuntime) {
-    assert!(rt; each_asks(&rt, rt.alloc(), &Refusing::new(rt.alloc())));
+    assert!(rt; in_memory(&rt, rt.alloc(), Part::Spellings));
 }
 
-// Whether entries that are appended ask for memory.
-fn entries_ask<R: Abort>(rt: &R, alloc: Global, heap: Heap<'_>) -> bool {
-    let mut requests = 0u64;
-    for behind in &LENGTHS {
-        let call = Appending(*behind);
-        let more = requests_of::<_, _, _, Entered<Heap<'_>>>(rt, alloc, heap, *behind, &call);
-        requests = requests.saturating_add(more);
-    }
-    requests > 1
+/// Whether entries that are appended ask for memory.
+pub fn entries_ask<R: Abort, H: Refuses>(rt: &R, heap: H) -> bool {
+    requests_behind::<R, H, (), Entered<H>>(rt, heap, (), &LENGTHS) > 1
 }
 
 #[test]
-fn entries(rt: HostRuntime) {
-    assert!(rt; entries_ask(&rt, rt.alloc(), &Refusing::new(rt.alloc())));
+fn appended_entries(rt: HostRuntime) {
+    assert!(rt; in_memory(&rt, rt.alloc(), Part::Entries));
 }

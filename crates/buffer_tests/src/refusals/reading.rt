@@ -1,10 +1,13 @@
-//! Messages are read.
+//! Messages are read, journals are replayed, and the items of a sink's file are counted.
 
+use crate::refusals::journals::{JOURNAL, fault_of, tell_chunks};
+use crate::refusals::parts::{Part, in_memory};
 use crate::refusals::told::Told;
-use crate::refusals::trial::{Heap, Trial, requests_of};
+use crate::refusals::trial::{Refuses, Trial, each_asks, requests_behind};
+use chunk_journal::replay;
 use event_modes::{Entries, Feed, FeedError, Message, Next, Read, read};
-use refusing_alloc::Refusing;
-use std::alloc::{AllocError, Allocator, Global};
+use sink_series::count_events;
+use std::alloc::{AllocError, Allocator};
 use std::process::Abort;
 
 /// Tells what a message has.
@@ -28,11 +31,16 @@ fn tell_read<A: Allocator>(read: &Read<A>, told: &mut Told) {
     }
 }
 
-// Bytes that are read, as a message or as so many entries.
+// Bytes that are read: as a message, as so many entries, as a journal, or as a sink's file.
+#[derive(Clone, Copy)]
 enum Bytes {
     Message(&'static [u8]),
     Stored(&'static [u8], usize),
+    Journal,
+    Items,
 }
+
+static ITEMS: &[u8] = b"\x93\xa1a\x01\x80\x93\xa1b\x02\x80\x93\xa1c\x03\x80\x93";
 
 fn read_message<A: Allocator + Copy>(
     heap: A,
@@ -60,19 +68,40 @@ fn read_entries<A: Allocator + Copy>(
     Ok(())
 }
 
-/// An allocator, by which bytes are read.
-#[derive(Drop)]
-pub struct Reader<A: Allocator + Drop>(pub A);
+fn replayed<A: Allocator + Copy>(heap: A, told: &mut Told) -> Result<(), AllocError> {
+    match replay(heap, JOURNAL) {
+        Ok(replayed) => {
+            tell_chunks(&replayed.chunks, told);
+            told.number(replayed.used as u64);
+            Ok(())
+        }
+        Err(fault) => fault_of(fault, told),
+    }
+}
+
+fn count_items<A: Allocator + Copy>(heap: A, told: &mut Told) -> Result<(), AllocError> {
+    match count_events(heap, ITEMS) {
+        Ok(counted) => told.number(counted.events as u64),
+        Err(AllocError) => return Err(AllocError),
+    }
+    Ok(())
+}
+
+// An allocator, by which bytes are read.
+#[derive(Clone, Copy)]
+struct Reader<A>(A);
 
 impl<A: Allocator + Copy> Trial<A, Bytes> for Reader<A> {
-    fn made(heap: A, _call: &Bytes, _told: &mut Told) -> Option<Self> {
+    fn made(heap: A, _bytes: Bytes, _behind: usize) -> Option<Self> {
         Some(Reader(heap))
     }
 
-    fn call(&mut self, call: &Bytes, told: &mut Told) -> Result<(), AllocError> {
-        match call {
+    fn call(&mut self, bytes: Bytes, told: &mut Told) -> Result<(), AllocError> {
+        match bytes {
             Bytes::Message(bytes) => read_message(self.0, bytes, told),
-            Bytes::Stored(bytes, count) => read_entries(self.0, bytes, *count, told),
+            Bytes::Stored(bytes, count) => read_entries(self.0, bytes, count, told),
+            Bytes::Journal => replayed(self.0, told),
+            Bytes::Items => count_items(self.0, told),
         }
     }
 
@@ -81,11 +110,11 @@ impl<A: Allocator + Copy> Trial<A, Bytes> for Reader<A> {
     fn close(self, _told: &mut Told) {}
 }
 
-// A message comes in pieces of one byte, up to this one, which is fed with all that is behind it;
-// or what came then is taken off.
+// A message comes in pieces of one byte, so many; then it is fed with all that is behind them, or
+// what came is taken off.
 #[derive(Clone, Copy)]
 enum Fed {
-    Feed(usize),
+    Feed,
     Next,
 }
 
@@ -103,12 +132,8 @@ fn feed_bytes<A: Allocator + Copy>(heap: A, count: usize) -> Option<Feed<A>> {
     Some(feed)
 }
 
-fn feed_rest<A: Allocator + Copy>(
-    feed: &mut Feed<A>,
-    fed: usize,
-    told: &mut Told,
-) -> Result<(), AllocError> {
-    let (_, rest) = WHOLE.split_at(fed.min(WHOLE.len()));
+fn feed_rest<A: Allocator + Copy>(feed: &mut Feed<A>, told: &mut Told) -> Result<(), AllocError> {
+    let (_, rest) = WHOLE.split_at(feed.held_len().min(WHOLE.len()));
     match feed.feed(rest) {
         Ok(()) => Ok(()),
         Err(FeedError::Memory) => Err(AllocError),
@@ -137,16 +162,13 @@ fn take_next<A: Allocator + Copy>(feed: &mut Feed<A>, told: &mut Told) -> Result
 }
 
 impl<A: Allocator + Copy> Trial<A, Fed> for Feed<A> {
-    fn made(heap: A, call: &Fed, _told: &mut Told) -> Option<Self> {
-        match *call {
-            Fed::Feed(count) => feed_bytes(heap, count),
-            Fed::Next => feed_bytes(heap, WHOLE.len()),
-        }
+    fn made(heap: A, _call: Fed, behind: usize) -> Option<Self> {
+        feed_bytes(heap, behind)
     }
 
-    fn call(&mut self, call: &Fed, told: &mut Told) -> Result<(), AllocError> {
-        match *call {
-            Fed::Feed(count) => feed_rest(self, count, told),
+    fn call(&mut self, call: Fed, told: &mut Told) -> Result<(), AllocError> {
+        match call {
+            Fed::Feed => feed_rest(self, told),
             Fed::Next => take_next(self, told),
         }
     }
@@ -158,8 +180,7 @@ impl<A: Allocator + Copy> Trial<A, Fed> for Feed<A> {
     // The stream goes on from where it is.
     fn close(self, told: &mut Told) {
         let mut feed = self;
-        let held = feed.held_len();
-        let _ = feed_rest(&mut feed, held, told);
+        let _ = feed_rest(&mut feed, told);
         let _ = take_next(&mut feed, told);
     }
 }
@@ -176,41 +197,34 @@ static BYTES: [Bytes; 9] = [
     Bytes::Stored(b"\x92\x01\x80\x92\x02\x80", 2),
 ];
 
-static COUNTS: [usize; 13] = [0, 1, 8, 9, 15, 16, 17, 31, 32, 33, 60, 64, 65];
+// These make more than one request each.
+static FILES: [Bytes; 2] = [Bytes::Journal, Bytes::Items];
 
-// Whether each asks for memory.
-fn each_asks<R: Abort>(rt: &R, alloc: Global, heap: Heap<'_>) -> bool {
-    for (number, bytes) in BYTES.iter().enumerate() {
-        if requests_of::<_, _, _, Reader<Heap<'_>>>(rt, alloc, heap, number, bytes) == 0 {
-            return false;
-        }
-    }
-    true
+static ONCE: [usize; 1] = [0];
+
+/// Whether each asks for memory.
+pub fn bytes_ask<R: Abort, H: Refuses>(rt: &R, heap: H) -> bool {
+    each_asks::<R, H, Bytes, Reader<H>>(rt, heap, &BYTES, &ONCE, 1)
+        && each_asks::<R, H, Bytes, Reader<H>>(rt, heap, &FILES, &ONCE, 2)
 }
 
 #[test]
 fn bytes_that_are_read(rt: HostRuntime) {
-    assert!(rt; each_asks(&rt, rt.alloc(), &Refusing::new(rt.alloc())));
+    assert!(rt; in_memory(&rt, rt.alloc(), Part::Bytes));
 }
 
-// How many requests a feed makes behind each of these numbers of bytes.
-fn behind_each<R: Abort>(rt: &R, alloc: Global, heap: Heap<'_>) -> u64 {
-    let mut requests = 0u64;
-    for count in &COUNTS {
-        let call = Fed::Feed(*count);
-        let more = requests_of::<_, _, _, Feed<Heap<'_>>>(rt, alloc, heap, *count, &call);
-        requests = requests.saturating_add(more);
-    }
-    requests
-}
+static COUNTS: [usize; 13] = [0, 1, 8, 9, 15, 16, 17, 31, 32, 33, 60, 64, 65];
 
-// Whether a stream asks for memory, as it is fed and as a message is taken off.
-fn streams_ask<R: Abort>(rt: &R, alloc: Global, heap: Heap<'_>) -> bool {
-    behind_each(rt, alloc, heap) > 1
-        && requests_of::<_, _, _, Feed<Heap<'_>>>(rt, alloc, heap, 99, &Fed::Next) > 2
+// All that comes.
+static ALL: [usize; 1] = [71];
+
+/// Whether a stream asks for memory, as it is fed and as a message is taken off.
+pub fn streams_ask<R: Abort, H: Refuses>(rt: &R, heap: H) -> bool {
+    requests_behind::<R, H, Fed, Feed<H>>(rt, heap, Fed::Feed, &COUNTS) > 1
+        && requests_behind::<R, H, Fed, Feed<H>>(rt, heap, Fed::Next, &ALL) > 2
 }
 
 #[test]
 fn streams(rt: HostRuntime) {
-    assert!(rt; streams_ask(&rt, rt.alloc(), &Refusing::new(rt.alloc())));
+    assert!(rt; in_memory(&rt, rt.alloc(), Part::Streams));
 }

@@ -1,13 +1,17 @@
-//! Each call of a script of a shared buffer; and what makes deliveries and room for answers.
+//! Each call of a script of a shared buffer, and audits of its book.
 
 use crate::devices::NewDir;
 use crate::refusals::parts::{Part, in_memory};
-use crate::refusals::shop::{Books, Shop};
+use crate::refusals::shop::{
+    Books, Hands, append, append_pending, audit, body, claim, end, purge, redeem, tell, tell_books,
+};
 use crate::refusals::told::Told;
 use crate::refusals::trial::{Refuses, Trial, requests_of};
+use crate::shelves::eager_in;
+use ack_receipt::{Basis, SharedBuffer};
 use buffer_store::BufferFault;
 use disk_files::Dir;
-use std::alloc::{AllocError, Allocator, Global};
+use std::alloc::{AllocError, Allocator};
 use std::process::Abort;
 use std::sync::Wait;
 
@@ -66,22 +70,30 @@ static SCRIPT: [Act; 37] = [
     Act::DropOldest,
 ];
 
+fn done(answer: Result<(), BufferFault>) -> Result<u64, BufferFault> {
+    match answer {
+        Ok(()) => Ok(0),
+        Err(fault) => Err(fault),
+    }
+}
+
 fn take<R: Wait + Abort, A: Allocator + Copy, D: Dir>(
     rt: &R,
-    shop: &mut Shop<A, D>,
+    shelf: &SharedBuffer<D, A>,
+    hands: &mut Hands<A>,
     act: Act,
     told: &mut Told,
 ) -> Result<u64, BufferFault> {
     match act {
-        Act::Append(_) => shop.append(rt),
-        Act::Pend(_) => shop.append_pending(rt),
-        Act::Redeem => shop.redeem(rt),
-        Act::Enqueue(serial) => shop.enqueue(rt, serial),
-        Act::Claim => shop.claim(rt),
-        Act::Body => shop.body(rt, told),
-        Act::Purge => shop.purge(rt),
-        Act::DropOldest => shop.drop_oldest(rt),
-        Act::Renew => shop.renew(rt),
+        Act::Append(_) => append(rt, shelf, hands),
+        Act::Pend(_) => append_pending(rt, shelf, hands),
+        Act::Redeem => redeem(rt, shelf, hands),
+        Act::Enqueue(serial) => done(shelf.enqueue(rt, serial)),
+        Act::Claim => claim(rt, shelf, hands),
+        Act::Body => body(rt, shelf, hands, told),
+        Act::Purge => purge(rt, shelf, hands),
+        Act::DropOldest => shelf.drop_oldest(rt),
+        Act::Renew => done(shelf.renew(rt)),
     }
 }
 
@@ -103,58 +115,60 @@ fn act_at(place: usize) -> Act {
 // Whether the calls before this place are answered, and the one there is prepared.
 fn goes_to<R: Wait + Abort, A: Allocator + Copy, D: Dir>(
     rt: &R,
-    shop: &mut Shop<A, D>,
+    shelf: &SharedBuffer<D, A>,
+    hands: &mut Hands<A>,
     place: usize,
-    told: &mut Told,
 ) -> bool {
     for act in SCRIPT.split_at(place.min(SCRIPT.len())).0 {
-        if !shop.prepare(tag_of(*act), 1) || take(rt, shop, *act, told).is_err() {
+        if !hands.prepare(tag_of(*act), 1)
+            || take(rt, shelf, hands, *act, &mut Told::new()).is_err()
+        {
             return false;
         }
     }
-    shop.prepare(tag_of(act_at(place)), 2)
+    hands.prepare(tag_of(act_at(place)), 2)
 }
 
-// The call at this place of the script, behind those before it.
-struct Place<'r, R> {
-    rt: &'r R,
-    place: usize,
-}
-
+// A shared buffer behind the calls before a place of the script, what is in one's hands, and the
+// call there.
 struct Trying<'r, R, A: Allocator, D: Dir> {
     rt: &'r R,
-    shop: Shop<A, D>,
+    act: Act,
+    shelf: SharedBuffer<D, A>,
+    hands: Hands<A>,
 }
 
-// A shop behind the calls before this place.
-fn played<R: Wait + Abort, A: Allocator + Copy, D: NewDir<A>>(
-    rt: &R,
+// A shared buffer in a new folder, behind the calls before this place. Its chunks go once they are
+// written, or are dropped.
+fn played<'r, R: Wait + Abort, A: Allocator + Copy, D: NewDir<A>>(
+    rt: &'r R,
     heap: A,
     place: usize,
-    told: &mut Told,
-) -> Option<Shop<A, D>> {
-    let Some(mut shop) = Shop::open(heap) else {
+) -> Option<Trying<'r, R, A, D>> {
+    let Some(shelf) = eager_in(heap, D::made(heap), Basis::Written) else {
         return None;
     };
-    if goes_to(rt, &mut shop, place, told) {
-        return Some(shop);
+    let mut hands = Hands::new(heap);
+    if goes_to(rt, &shelf, &mut hands, place) {
+        return Some(Trying {
+            rt,
+            act: act_at(place),
+            shelf,
+            hands,
+        });
     }
-    shop.close(rt).tell(told);
+    tell_books(end(rt, shelf, hands), &mut Told::new());
     None
 }
 
-impl<'r, R: Wait + Abort, A: Allocator + Copy, D: NewDir<A>> Trial<A, Place<'r, R>>
+impl<'r, R: Wait + Abort, A: Allocator + Copy, D: NewDir<A>> Trial<A, &'r R>
     for Trying<'r, R, A, D> {
-    fn made(heap: A, call: &Place<'r, R>, told: &mut Told) -> Option<Self> {
-        let rt = call.rt;
-        match played(rt, heap, call.place, told) {
-            Some(shop) => Some(Trying { rt, shop }),
-            None => None,
-        }
+    fn made(heap: A, rt: &'r R, behind: usize) -> Option<Self> {
+        played(rt, heap, behind)
     }
 
-    fn call(&mut self, call: &Place<'r, R>, told: &mut Told) -> Result<(), AllocError> {
-        match take(self.rt, &mut self.shop, act_at(call.place), told) {
+    fn call(&mut self, rt: &'r R, told: &mut Told) -> Result<(), AllocError> {
+        match take(rt, &self.shelf, &mut self.hands, self.act, told) {
             Ok(number) => told.number(number),
             Err(BufferFault::Memory) => return Err(AllocError),
             Err(_) => told.number(77_777),
@@ -163,96 +177,61 @@ impl<'r, R: Wait + Abort, A: Allocator + Copy, D: NewDir<A>> Trial<A, Place<'r, 
     }
 
     fn show(&mut self, told: &mut Told) {
-        self.shop.tell(self.rt, told);
+        tell(self.rt, &self.shelf, &self.hands, told);
     }
 
     fn close(self, told: &mut Told) {
-        let Trying { rt, shop } = self;
-        shop.close(rt).tell(told);
+        let Trying {
+            rt,
+            act: _,
+            shelf,
+            hands,
+        } = self;
+        tell_books(end(rt, shelf, hands), told);
     }
 }
 
-// An audit behind the calls before this place.
-struct Audit<'r, R> {
-    rt: &'r R,
-    place: usize,
-}
-
-impl<'r, R: Wait + Abort, A: Allocator + Copy, D: NewDir<A>> Trial<A, Audit<'r, R>>
-    for Books<A, D> {
-    fn made(heap: A, call: &Audit<'r, R>, told: &mut Told) -> Option<Self> {
-        match played::<R, A, D>(call.rt, heap, call.place, told) {
-            Some(shop) => Some(shop.close(call.rt)),
+// An audit behind the calls before a place.
+impl<'r, R: Wait + Abort, A: Allocator + Copy, D: NewDir<A>> Trial<A, &'r R> for Books<A, D> {
+    fn made(heap: A, rt: &'r R, behind: usize) -> Option<Self> {
+        match played::<R, A, D>(rt, heap, behind) {
+            Some(
+                Trying {
+                    rt: _,
+                    act: _,
+                    shelf,
+                    hands,
+                },
+            ) => Some(end(rt, shelf, hands)),
             None => None,
         }
     }
 
-    fn call(&mut self, _call: &Audit<'r, R>, told: &mut Told) -> Result<(), AllocError> {
-        told.number(u64::from(self.audit()?));
+    fn call(&mut self, _rt: &'r R, told: &mut Told) -> Result<(), AllocError> {
+        match audit(self) {
+            Ok(accounts) => told.number(u64::from(accounts)),
+            Err(AllocError) => return Err(AllocError),
+        }
         Ok(())
     }
 
     fn show(&mut self, _told: &mut Told) {}
 
     fn close(self, told: &mut Told) {
-        self.tell(told);
+        tell_books(self, told);
     }
 }
 
 // How many requests the call at this place makes.
-fn requests_at<R: Wait + Abort, H: Refuses, D: NewDir<H>>(
-    rt: &R,
-    alloc: Global,
-    heap: H,
-    place: usize,
-) -> u64 {
-    let call = Place { rt, place };
-    let requests = requests_of::<_, _, _, Trying<'_, R, H, D>>(rt, alloc, heap, place, &call);
-    let Place { rt: _, place: _ } = call;
-    requests
-}
-
-// How many requests an audit behind the calls before this place makes.
-fn audit_requests_at<R: Wait + Abort, H: Refuses, D: NewDir<H>>(
-    rt: &R,
-    alloc: Global,
-    heap: H,
-    place: usize,
-) -> u64 {
-    let call = Audit { rt, place };
-    let requests = requests_of::<_, _, _, Books<H, D>>(rt, alloc, heap, place, &call);
-    let Audit { rt: _, place: _ } = call;
-    requests
-}
-
-/// Whether audits ask for memory.
-pub fn audits_ask<R: Wait + Abort, H: Refuses, D: NewDir<H>>(
-    rt: &R,
-    alloc: Global,
-    heap: H,
-) -> bool {
-    for place in 12..14 {
-        if audit_requests_at::<R, H, D>(rt, alloc, heap, place) == 0 {
-            return false;
-        }
-    }
-    true
-}
-
-#[test]
-fn audits(rt: HostRuntime) {
-    assert!(rt; in_memory(&rt, rt.alloc(), Part::SharedAudits));
+fn requests_at<R: Wait + Abort, H: Refuses, D: NewDir<H>>(rt: &R, heap: H, place: usize) -> u64 {
+    requests_of::<R, H, &R, Trying<'_, R, H, D>>(rt, heap, rt, place)
 }
 
 /// Whether the calls of the script ask for memory more than thirty times.
-pub fn calls_ask<R: Wait + Abort, H: Refuses, D: NewDir<H>>(
-    rt: &R,
-    alloc: Global,
-    heap: H,
-) -> bool {
+pub fn calls_ask<R: Wait + Abort, H: Refuses, D: NewDir<H>>(rt: &R, heap: H) -> bool {
     let mut requests = 0u64;
     for place in 0..SCRIPT.len() {
-        requests = requests.saturating_add(requests_at::<R, H, D>(rt, alloc, heap, place));
+        requests = requests.saturating_add(requests_at::<R, H, D>(rt, heap, place));
     }
     requests > 30
 }
@@ -260,4 +239,15 @@ pub fn calls_ask<R: Wait + Abort, H: Refuses, D: NewDir<H>>(
 #[test]
 fn calls(rt: HostRuntime) {
     assert!(rt; in_memory(&rt, rt.alloc(), Part::SharedCalls));
+}
+
+/// Whether audits ask for memory.
+pub fn audits_ask<R: Wait + Abort, H: Refuses, D: NewDir<H>>(rt: &R, heap: H) -> bool {
+    requests_of::<R, H, &R, Books<H, D>>(rt, heap, rt, 12) > 0
+        && requests_of::<R, H, &R, Books<H, D>>(rt, heap, rt, 13) > 0
+}
+
+#[test]
+fn audits(rt: HostRuntime) {
+    assert!(rt; in_memory(&rt, rt.alloc(), Part::SharedAudits));
 }

@@ -5,23 +5,14 @@ use crate::refusals::files::tell_left;
 use crate::refusals::parts::{Part, in_memory};
 use crate::refusals::told::Told;
 use crate::refusals::trial::{Refuses, Trial, requests_of};
+use crate::script::entries;
+use crate::sinks::{opened, written};
 use disk_files::Dir;
 use event_modes::Entries;
 use sink_series::{Series, SeriesFault, Stored};
-use std::alloc::{AllocError, Allocator, Global};
+use std::alloc::{AllocError, Allocator};
 use std::mem::replace;
 use std::process::Abort;
-
-// How often a sink was written to before.
-static WRITES: [u8; 5] = [0, 1, 4, 6, 9];
-
-// The entries of a write.
-fn entries<A: Allocator + Copy>(heap: A, number: u8) -> Option<Entries<A>> {
-    match Entries::read(heap, &[0x92, number, 0x81, 0xa1, 0x6b, 0xa1, 0x76], 1) {
-        Ok(entries) => entries,
-        Err(AllocError) => None,
-    }
-}
 
 fn tell_stored<A: Allocator>(stored: &Stored<A>, told: &mut Told) {
     told.bytes(stored.path());
@@ -34,31 +25,28 @@ fn write<A: Allocator + Copy, D: Dir>(
     entries: &Entries<A>,
     told: &mut Told,
 ) -> Result<(), SeriesFault> {
-    let stored = series.write_all_entries(b"tag", entries)?;
-    tell_stored(&stored, told);
-    Ok(())
+    match series.write_all_entries(b"tag", entries) {
+        Ok(stored) => {
+            tell_stored(&stored, told);
+            Ok(())
+        }
+        Err(fault) => Err(fault),
+    }
 }
 
 fn read<A: Allocator + Copy, D: Dir>(
     series: &mut Series<D, A>,
     told: &mut Told,
 ) -> Result<(), SeriesFault> {
-    let events = series.content()?;
-    for event in &events {
-        told.bytes(event.tag());
-        told.bytes(event.entry());
-    }
-    Ok(())
-}
-
-// Whether these entries were written.
-fn is_written<A: Allocator + Copy, D: Dir>(
-    series: &mut Series<D, A>,
-    entries: &Entries<A>,
-) -> bool {
-    match series.write_all_entries(b"tag", entries) {
-        Ok(stored) => stored.entries().count() == 1,
-        Err(_) => false,
+    match series.content() {
+        Ok(events) => {
+            for event in &events {
+                told.bytes(event.tag());
+                told.bytes(event.entry());
+            }
+            Ok(())
+        }
+        Err(fault) => Err(fault),
     }
 }
 
@@ -66,30 +54,23 @@ fn is_written<A: Allocator + Copy, D: Dir>(
 fn are_written<A: Allocator + Copy, D: Dir>(
     heap: A,
     series: &mut Series<D, A>,
-    writes: u8,
+    writes: usize,
 ) -> bool {
-    for number in 0..writes {
-        let Some(entries) = entries(heap, number) else {
-            return false;
-        };
-        if !is_written(series, &entries) {
+    for _ in 0..writes {
+        if written(heap, series, b"tag", b"\x92\x07\x81\xa1k\xa1v").is_none() {
             return false;
         }
     }
     true
 }
 
-// A sink in a new folder.
-fn new_sink<A: Allocator + Copy, D: NewDir<A>>(heap: A) -> Option<Series<D, A>> {
-    match Series::open(heap, D::made(heap), b"out") {
-        Ok(series) => Some(series),
-        Err((_fault, _dir)) => None,
-    }
-}
-
-// A sink in a new folder with so many writes.
-fn written<A: Allocator + Copy, D: NewDir<A>>(heap: A, writes: u8) -> Option<Series<D, A>> {
-    let Some(mut series) = new_sink(heap) else {
+// A sink in this folder with so many writes.
+fn sink_of<A: Allocator + Copy, D: Dir + Drop>(
+    heap: A,
+    dir: D,
+    writes: usize,
+) -> Option<Series<D, A>> {
+    let Some(mut series) = opened(heap, dir, b"out") else {
         return None;
     };
     if are_written(heap, &mut series, writes) {
@@ -108,93 +89,95 @@ fn answered(answer: Result<(), SeriesFault>, told: &mut Told) -> Result<(), Allo
     Ok(())
 }
 
-// A sink, and entries that it is to take.
-#[derive(Drop)]
-struct Ready<A: Allocator + Copy, D: Dir> {
-    heap: A,
-    series: Series<D, A>,
-    entries: Entries<A>,
-}
-
-// A call behind so many writes.
+// A call behind so many writes, or an opening of the folder that they leave.
 #[derive(Clone, Copy)]
 enum Call {
-    Write(u8),
-    Content(u8),
+    Write,
+    Content,
+    Open,
 }
-
-impl<A: Allocator + Copy, D: NewDir<A>> Trial<A, Call> for Ready<A, D> {
-    fn made(heap: A, call: &Call, _told: &mut Told) -> Option<Self> {
-        let (Call::Write(writes) | Call::Content(writes)) = *call;
-        match (written(heap, writes), entries(heap, 99)) {
-            (Some(series), Some(entries)) => Some(Ready {
-                heap,
-                series,
-                entries,
-            }),
-            _ => None,
-        }
-    }
-
-    fn call(&mut self, call: &Call, told: &mut Told) -> Result<(), AllocError> {
-        let answer = match call {
-            Call::Write(_) => write(&mut self.series, &self.entries, told),
-            Call::Content(_) => read(&mut self.series, told),
-        };
-        answered(answer, told)
-    }
-
-    fn show(&mut self, told: &mut Told) {
-        let _ = read(&mut self.series, told);
-    }
-
-    fn close(self, told: &mut Told) {
-        tell_left(self.heap, self.series.into_dir(), told);
-    }
-}
-
-// An opening behind so many writes.
-#[derive(Clone, Copy)]
-struct Opening(u8);
 
 // A folder, or the sink that was opened in it.
 #[derive(Drop)]
-enum Found<A: Allocator + Copy, D: Dir> {
+enum Found<A: Allocator, D: Dir> {
     Folder(D),
     Sink(Series<D, A>),
     Nothing,
 }
 
-#[derive(Drop)]
-struct Folder<A: Allocator + Copy, D: Dir> {
+// A folder or a sink, and entries that it is to take.
+struct Site<A: Allocator, D: Dir> {
     heap: A,
+    entries: Entries<A>,
     found: Found<A, D>,
 }
 
+// What the call is tried on.
+fn found_for<A: Allocator, D: Dir>(series: Series<D, A>, call: Call) -> Found<A, D> {
+    match call {
+        Call::Open => Found::Folder(series.into_dir()),
+        Call::Write | Call::Content => Found::Sink(series),
+    }
+}
+
 // Opens the folder. What comes of it, and its answer.
-fn opened<A: Allocator + Copy, D: Dir>(heap: A, dir: D) -> (Found<A, D>, Result<(), SeriesFault>) {
+fn reopened<A: Allocator + Copy, D: Dir>(
+    heap: A,
+    dir: D,
+) -> (Found<A, D>, Result<(), SeriesFault>) {
     match Series::open(heap, dir, b"out") {
         Ok(series) => (Found::Sink(series), Ok(())),
         Err((fault, dir)) => (Found::Folder(dir), Err(fault)),
     }
 }
 
-impl<A: Allocator + Copy, D: NewDir<A>> Trial<A, Opening> for Folder<A, D> {
-    fn made(heap: A, call: &Opening, _told: &mut Told) -> Option<Self> {
-        match written::<A, D>(heap, call.0) {
-            Some(series) => Some(Folder {
+// Makes a call of the sink, or opens the folder. What there is then, and the answer.
+fn tried<A: Allocator + Copy, D: Dir>(
+    heap: A,
+    found: Found<A, D>,
+    entries: &Entries<A>,
+    call: Call,
+    told: &mut Told,
+) -> (Found<A, D>, Result<(), SeriesFault>) {
+    match found {
+        Found::Folder(dir) => reopened(heap, dir),
+        Found::Sink(mut series) => {
+            let answer = match call {
+                Call::Write => write(&mut series, entries, told),
+                Call::Content | Call::Open => read(&mut series, told),
+            };
+            (Found::Sink(series), answer)
+        }
+        Found::Nothing => (Found::Nothing, Ok(())),
+    }
+}
+
+fn tell_found<A: Allocator + Copy, D: Dir + Drop>(heap: A, found: Found<A, D>, told: &mut Told) {
+    match found {
+        Found::Folder(dir) => tell_left(heap, dir, told),
+        Found::Sink(series) => tell_left(heap, series.into_dir(), told),
+        Found::Nothing => told.number(66_666),
+    }
+}
+
+impl<A: Allocator + Copy, D: NewDir<A>> Trial<A, Call> for Site<A, D> {
+    fn made(heap: A, call: Call, behind: usize) -> Option<Self> {
+        let Some(entries) = entries(heap, 2) else {
+            return None;
+        };
+        match sink_of(heap, D::made(heap), behind) {
+            Some(series) => Some(Site {
                 heap,
-                found: Found::Folder(series.into_dir()),
+                entries,
+                found: found_for(series, call),
             }),
             None => None,
         }
     }
 
-    fn call(&mut self, _call: &Opening, told: &mut Told) -> Result<(), AllocError> {
-        let (found, answer) = match replace(&mut self.found, Found::Nothing) {
-            Found::Folder(dir) => opened(self.heap, dir),
-            other => (other, Ok(())),
-        };
+    fn call(&mut self, call: Call, told: &mut Told) -> Result<(), AllocError> {
+        let found = replace(&mut self.found, Found::Nothing);
+        let (found, answer) = tried(self.heap, found, &self.entries, call, told);
         self.found = found;
         answered(answer, told)
     }
@@ -206,36 +189,32 @@ impl<A: Allocator + Copy, D: NewDir<A>> Trial<A, Opening> for Folder<A, D> {
     }
 
     fn close(self, told: &mut Told) {
-        let Folder { heap, found } = self;
-        match found {
-            Found::Folder(dir) => tell_left(heap, dir, told),
-            Found::Sink(series) => tell_left(heap, series.into_dir(), told),
-            Found::Nothing => told.number(66_666),
-        }
+        let Site {
+            heap,
+            entries: _,
+            found,
+        } = self;
+        tell_found(heap, found, told);
     }
 }
 
-// Whether this call behind so many writes asks for memory.
-fn asks<R: Abort, H: Refuses, D: NewDir<H>>(
-    rt: &R,
-    alloc: Global,
-    heap: H,
-    writes: u8,
-    call: Call,
-) -> bool {
-    requests_of::<_, _, _, Ready<H, D>>(rt, alloc, heap, usize::from(writes), &call) > 0
-}
-
-/// Whether each call does behind each number of writes.
-pub fn each_asks<R: Abort, H: Refuses, D: NewDir<H>>(rt: &R, alloc: Global, heap: H) -> bool {
-    for writes in &WRITES {
-        if !asks::<R, H, D>(rt, alloc, heap, *writes, Call::Write(*writes))
-            || !asks::<R, H, D>(rt, alloc, heap, *writes, Call::Content(*writes))
-        {
+// Whether this call asks for memory behind each of these numbers of writes.
+fn asks<R: Abort, H: Refuses, D: NewDir<H>>(rt: &R, heap: H, call: Call, writes: &[usize]) -> bool {
+    for behind in writes {
+        if requests_of::<R, H, Call, Site<H, D>>(rt, heap, call, *behind) == 0 {
             return false;
         }
     }
     true
+}
+
+// How often a sink was written to before.
+static WRITES: [usize; 5] = [0, 1, 4, 6, 9];
+
+/// Whether each call does.
+pub fn calls_ask<R: Abort, H: Refuses, D: NewDir<H>>(rt: &R, heap: H) -> bool {
+    asks::<R, H, D>(rt, heap, Call::Write, &WRITES)
+        && asks::<R, H, D>(rt, heap, Call::Content, &WRITES)
 }
 
 #[test]
@@ -244,18 +223,11 @@ fn calls(rt: HostRuntime) {
 }
 
 // How often a sink that is opened was written to before.
-static BEFORE: [u8; 3] = [0, 1, 9];
+static BEFORE: [usize; 3] = [0, 1, 9];
 
-/// Whether each opening asks for memory.
-pub fn openings_ask<R: Abort, H: Refuses, D: NewDir<H>>(rt: &R, alloc: Global, heap: H) -> bool {
-    for writes in &BEFORE {
-        let number = usize::from(*writes);
-        let call = Opening(*writes);
-        if requests_of::<_, _, _, Folder<H, D>>(rt, alloc, heap, number, &call) == 0 {
-            return false;
-        }
-    }
-    true
+/// Whether each opening does.
+pub fn openings_ask<R: Abort, H: Refuses, D: NewDir<H>>(rt: &R, heap: H) -> bool {
+    asks::<R, H, D>(rt, heap, Call::Open, &BEFORE)
 }
 
 #[test]

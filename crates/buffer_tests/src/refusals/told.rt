@@ -1,44 +1,39 @@
-//! What is told of a state and of an answer, as bytes.
+//! What is told of a state and of an answer, as one number.
 
-use std::alloc::Global;
+// An odd number, so that two that are told one for the other always end in other sums.
+const STRIDE: u64 = 0x9e37_79b9_7f4a_7c15;
 
-/// Bytes that tell something; they are told by another allocator than the one that refuses.
-#[derive(Drop)]
+/// A sum over numbers that tell something, in their order.
+#[derive(Clone, Copy)]
 pub struct Told {
-    bytes: Vec<u8>,
-    // whether there was memory for all
-    is_whole: bool,
+    sum: u64,
 }
 
 impl Told {
     /// Nothing is told.
-    pub fn new(alloc: Global) -> Told {
-        Told {
-            bytes: Vec::new(alloc),
-            is_whole: true,
-        }
+    pub fn new() -> Told {
+        Told { sum: 0 }
     }
 
     /// Tells these bytes.
     pub fn bytes(&mut self, bytes: &[u8]) {
         self.number(bytes.len() as u64);
-        self.add(bytes);
+        for byte in bytes {
+            self.number(u64::from(*byte));
+        }
     }
 
     /// Tells a number.
     pub fn number(&mut self, number: u64) {
-        self.add(&number.to_be_bytes());
+        self.sum = self
+            .sum
+            .wrapping_add(1)
+            .wrapping_mul(STRIDE)
+            .wrapping_add(number);
     }
 
-    // Adds bytes as they are.
-    fn add(&mut self, bytes: &[u8]) {
-        if self.bytes.extend_from_slice(bytes).is_err() {
-            self.is_whole = false;
-        }
-    }
-
-    /// Whether the same is told here, all of it.
-    pub fn is(&self, other: &Told) -> bool {
-        self.is_whole && other.is_whole && self.bytes.as_slice() == other.bytes.as_slice()
+    /// Whether the same is told here.
+    pub fn is(self, other: Told) -> bool {
+        self.sum == other.sum
     }
 }

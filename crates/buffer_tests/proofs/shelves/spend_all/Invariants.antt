@@ -1,5 +1,5 @@
 use Rattle.std.specs.Vec.Iter.{into_iter_len}
-use Rattle.buffer_tests.proofs.refusals.shop.spend_all.Given as goal
+use Rattle.buffer_tests.proofs.shelves.spend_all.Given as goal
 
 abbrev pub invariant-loop-receipt : goal.invariant-loop-receipt
 invariant-loop-receipt g l = Unit {0}
