@@ -5,6 +5,7 @@
 mod listing;
 mod onward;
 mod outputs;
+mod pieces;
 mod search;
 mod sent;
 mod starts;

@@ -8,12 +8,13 @@ ghost use Rattle.route_graph.specs.Listing.{numbers_of};
 ghost use Rattle.way_listing.specs.Lines.{buffer_text as buffer_text_of, folder_at, last_note as last_note_of, line_of as line_of_output, numbered_text, way_text as way_text_of, AreWays, IsBehind, IsSaid, IsSentLine, IsUnsentLine, PrintsPlanWays};
 
 use crate::outputs::put_output;
+use crate::pieces::joined;
 use crate::search::search;
 use crate::sent::Sent;
 use crate::starts::starts;
-use crate::ways::entered;
+use crate::ways::{entered, print_lines};
 use loss_checker::Plan;
-use program_text::{CountedRead, Open, Status, print_plan_stop, put_last, read_plan};
+use program_text::{CountedRead, Open, Status, print_plan_stop, read_plan};
 use relay_conf::{BufferNo, Output};
 use relay_net::{Entrance, Net};
 use route_graph::Way;
@@ -39,10 +40,7 @@ pub fn run_plan_ways<A: Allocator + Copy, B: Allocator, R: CountedRead, O: Open,
         Ok(plan) => plan,
         Err(stop) => return print_plan_stop(alloc, stop, out),
     };
-    match list_ways(alloc, &plan, tags) {
-        Ok(lines) => put_last(out, &lines, Status::Done),
-        Err(AllocError) => put_last(out, b"fault memory\n", Status::Usage),
-    }
+    print_lines(list_ways(alloc, &plan, tags), out)
 }
 
 // The lines of a plan.
@@ -56,10 +54,9 @@ fn list_ways<A: Allocator + Copy, B: Allocator>(
     let begun = starts(alloc, plan.net(), tags)?;
     let unsent = unsent_lines(alloc, &begun, tags)?;
     let found = search(alloc, plan.net(), begun)?;
-    let mut lines = sent_lines(alloc, plan, &found.sent)?;
-    lines.extend_from_slice(&unsent)?;
-    lines.extend_from_slice(last_note(found.are_all).as_bytes())?;
-    Ok(lines)
+    let lines = sent_lines(alloc, plan, &found.sent)?;
+    let note = last_note(found.are_all);
+    joined(alloc, &lines, &unsent, note.as_bytes(), b"", b"")
 }
 
 // The lines of those of the tags that none of the first messages has.
@@ -90,10 +87,14 @@ fn unsent_line<A: Allocator + Copy>(
     if have_tag(begun, tag) {
         return Ok(Vec::new(alloc));
     }
-    let mut line = Vec::from_slice(alloc, b"# no client of the plan sends ")?;
-    line.extend_from_slice(tag)?;
-    line.extend_from_slice(b"\n")?;
-    Ok(line)
+    joined(
+        alloc,
+        b"# no client of the plan sends ",
+        tag,
+        b"\n",
+        b"",
+        b"",
+    )
 }
 
 // Whether one of these messages has the tag.
@@ -146,12 +147,15 @@ fn sent_line<A: Allocator + Copy>(
     let port = sent.port();
     let behind_host = format!(in alloc; ":{port} ")?;
     let said = said(alloc, plan, sent)?;
-    let mut line = Vec::from_slice(alloc, sent.host())?;
-    line.extend_from_slice(behind_host.as_bytes())?;
-    line.extend_from_slice(sent.tag())?;
-    line.extend_from_slice(&said)?;
-    line.extend_from_slice(b"\n")?;
-    Ok(line)
+    let host = sent.host();
+    joined(
+        alloc,
+        host,
+        behind_host.as_bytes(),
+        sent.tag(),
+        &said,
+        b"\n",
+    )
 }
 
 // What is said of a message.
@@ -166,10 +170,8 @@ fn said<A: Allocator + Copy>(
         return Vec::from_slice(alloc, b" is no source of the plan");
     };
     let behind = behind(alloc, plan.net(), at, sent)?;
-    let mut text = Vec::from_slice(alloc, b" ")?;
-    text.extend_from_slice(folder(plan, at.relay).as_bytes())?;
-    text.extend_from_slice(&behind)?;
-    Ok(text)
+    let folder = folder(plan, at.relay);
+    joined(alloc, b" ", folder.as_bytes(), &behind, b"", b"")
 }
 
 // The folder of the relay at this place.
@@ -198,10 +200,7 @@ fn behind<A: Allocator + Copy>(
     };
     let way = net.way(at, &tag)?;
     let gone = way_text(alloc, net, at.relay, &way)?;
-    let mut text = Vec::from_slice(alloc, b" ")?;
-    text.extend_from_slice(tag.as_bytes())?;
-    text.extend_from_slice(&gone)?;
-    Ok(text)
+    joined(alloc, b" ", tag.as_bytes(), &gone, b"", b"")
 }
 
 // The text of a way in the relay at this place.

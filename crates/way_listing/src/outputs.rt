@@ -8,6 +8,7 @@ ghost use Rattle.relay_conf.specs.Buffers.{buffer_number};
 ghost use Rattle.relay_net.specs.Outputs.{is_numbered};
 ghost use Rattle.way_listing.specs.Outputs.{buffer_text, output_text, outputs_in, server_text};
 
+use crate::pieces::put_three;
 use relay_conf::{BufferNo, Output, Relay, Scope, Server};
 use std::alloc::{AllocError, Allocator};
 
@@ -38,8 +39,7 @@ pub fn put_output<A: Allocator + Copy, B: Allocator>(
         Output::Null { line: _ } => Ok(()),
         Output::Relabel { target: _, line: _ } => Ok(()),
         Output::File { settings, line: _ } => {
-            line.extend_from_slice(b" file ")?;
-            line.extend_from_slice(settings.path.as_bytes())
+            put_three(line, b" file ", settings.path.as_bytes(), b"")
         }
         Output::Forward { settings, line: _ } => {
             line.extend_from_slice(b" forward")?;
@@ -72,9 +72,7 @@ fn put_server<A: Allocator + Copy, B: Allocator>(
 {
     let port = server.port;
     let behind = format!(in alloc; ":{port}")?;
-    line.extend_from_slice(b" ")?;
-    line.extend_from_slice(server.host.as_bytes())?;
-    line.extend_from_slice(behind.as_bytes())
+    put_three(line, b" ", server.host.as_bytes(), behind.as_bytes())
 }
 
 // The output that has this buffer.

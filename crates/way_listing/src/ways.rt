@@ -1,8 +1,11 @@
 //! The ways of tags, listed: a line for each source and each tag.
 
-ghost use Rattle.std.specs.Prelude.{◌≡◌, ◌<◌, ◌≤◌, length, map, string_bytes, IfOk, MatchOption};
+ghost use Rattle.std.specs.Prelude.{◌≡◌, ◌<◌, ◌≤◌, length, map, string_bytes, IfOk, MatchOption, MatchResult};
 ghost use Rattle.std.specs.List.{flat_map};
 ghost use Rattle.std.specs.Option.{option_copied};
+ghost use Rattle.program_text.specs.Lines.{memory_line};
+ghost use Rattle.program_text.specs.Output.{IsPrinted};
+ghost use Rattle.program_text.specs.declared.status.Status.TheVariants.{Done, Usage};
 ghost use Rattle.route_graph.specs.Listing.{numbers_of};
 ghost use Rattle.route_graph.specs.Table.{table_of};
 ghost use Rattle.way_listing.specs.Ways.{way_text, AreWays, AreWaysFrom, IsBehindTag, IsWayLine, PrintsWays};
@@ -11,6 +14,7 @@ ghost use Rattle.tag_pattern.specs.Prefixes.{entered_tag};
 ghost use Rattle.tag_pattern.specs.Parts.{most_tag_bytes};
 
 use crate::outputs::put_buffer;
+use crate::pieces::joined;
 use program_text::{CountedRead, Status, print_conf_stop, put_last, read_relay};
 use relay_conf::{BufferNo, Relay, Source};
 use route_graph::{Routes, Way};
@@ -34,7 +38,19 @@ pub fn run_ways<A: Allocator + Copy, B: Allocator, R: CountedRead, W: Write>(
         Ok(relay) => relay,
         Err(stop) => return print_conf_stop(alloc, stop, out),
     };
-    match list_ways(alloc, &relay, tags) {
+    print_lines(list_ways(alloc, &relay, tags), out)
+}
+
+/// Prints these lines; or that memory ran out.
+pub(crate) fn print_lines<A: Allocator, W: Write>(
+    lines: Result<Vec<u8, A>, AllocError>,
+    out: &mut W,
+) -> Status
+    ensures { MatchResult lines
+        (λ lines. IsPrinted (W.contents out.old) (W.contents out.new) lines.items Done result)
+        (λ _. IsPrinted (W.contents out.old) (W.contents out.new) memory_line Usage result) }
+{
+    match lines {
         Ok(lines) => put_last(out, &lines, Status::Done),
         Err(AllocError) => put_last(out, b"fault memory\n", Status::Usage),
     }
@@ -91,11 +107,7 @@ fn way_line<A: Allocator + Copy>(
     let port = source.port;
     let front = format!(in alloc; "{port} ")?;
     let behind = behind_tag(alloc, relay, routes, source, tag)?;
-    let mut line = front.into_bytes();
-    line.extend_from_slice(tag)?;
-    line.extend_from_slice(&behind)?;
-    line.extend_from_slice(b"\n")?;
-    Ok(line)
+    joined(alloc, front.as_bytes(), tag, &behind, b"\n", b"")
 }
 
 // What stands behind a tag at a source.
@@ -113,8 +125,7 @@ fn behind_tag<A: Allocator + Copy>(
         return Vec::from_slice(alloc, b" is no tag");
     };
     let way = routes.way(source.label, &tag)?;
-    let text = way_text(alloc, relay, &way)?;
-    Ok(text)
+    way_text(alloc, relay, &way)
 }
 
 /// The tag that an event of this tag has behind a source with this prefix; `None` where it is too

@@ -1,17 +1,14 @@
-use Rattle.std.proofs.Common.{List, ℕ, subst, inl, inr}
+use Rattle.std.proofs.Common.{List, ℕ, inl, inr, map}
+use Rattle.std.specs.Prelude.{string_bytes}
 use Rattle.program_text.proofs.ReadingSteps.{none_read}
-use Rattle.program_text.specs.Output.{IsPrinted}
-use Rattle.program_text.specs.declared.status.Status.TheVariants.{Done}
+use Rattle.way_listing.proofs.Printing.{printed_ways}
 use Rattle.way_listing.proofs.ways.run_ways.Goals as goal
 
-pub returns-in-Ok-list_ways : goal.returns-in-Ok-list_ways
-returns-in-Ok-list_ways g c = inl (record {
-  relay = c.in-Ok.relay;
-  is_read = c.in-Ok.ensures.relay;
-  lines = c.in-Ok-list_ways.lines.items;
-  ways = c.in-Ok-list_ways.ensures;
-  printed = subst (λ (l : List ℕ). IsPrinted (g.W.Write.contents c.args.out.now) (g.W.Write.contents c.put_last.new.out) l Done c.put_last.result) c.deref.ensures.value c.put_last.ensures;
-})
+pub returns : goal.returns
+returns g c =
+    let out = g.W.Write.contents in
+    printed_ways (g.R.CountedRead.remaining c.args.conf.now) (map string_bytes c.args.tags.now) (out c.args.out.now) (out c.print_lines.new.out) c.print_lines.result c.in-Ok.relay c.list_ways.result c.in-Ok.ensures.relay c.list_ways.ensures
+    c.print_lines.ensures
 
 pub returns-in-Err : goal.returns-in-Err
 returns-in-Err g c =
