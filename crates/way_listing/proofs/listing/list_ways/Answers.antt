@@ -1,4 +1,4 @@
-use Rattle.std.proofs.Common.{◌≡◌, ◌∙◌}
+use Rattle.std.proofs.Common.{◌≡◌, ◌∙◌, arith}
 use Rattle.std.proofs.lemmas.Result.{IfOk-weaker}
 use Rattle.way_listing.specs.Lines.{last_note}
 use Rattle.way_listing.proofs.Joining.{three}
@@ -21,3 +21,6 @@ returns g c =
       are_unsent = rw c.deref.ensures.value at c.in_ok-unsent.ensures;
       lines_are = three listed unsent (last_note found.are_all) _ _ _ lines.items c.deref-3.ensures.value c.deref-4.ensures.value (c.as_bytes.ensures.value ∙ c.last_note-note.ensures) is;
     }) c.joined.ensures
+
+pub search-requires : goal.search-requires
+search-requires g c = c.in_ok-begun.ensures.once (λ i j d less end. absurd (omega (arith, end)))
