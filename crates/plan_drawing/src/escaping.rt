@@ -1,25 +1,24 @@
 //! Names in a picture: ASCII alone, and in quotes.
 
-ghost use Rattle.std.specs.Prelude.{◌≡◌, ◌++◌, IfOk, OnOk};
+ghost use Rattle.std.specs.Prelude.{◌≡◌, ◌++◌, OnOk};
 ghost use Rattle.std.specs.List.{flat_map};
 ghost use Rattle.plan_drawing.specs.Escaping.{inside_quotes, quoted, shown};
 
 use program_text::put_hex;
 use std::alloc::{AllocError, Allocator};
 
-/// The bytes, each that is no printed character of ASCII as `\x` and two digits.
-pub(crate) fn shown<A: Allocator + Copy>(alloc: A, bytes: &[u8]) -> Result<Vec<u8, A>, AllocError>
-    ensures { IfOk result (λ text. text.items ≡ flat_map shown bytes.now) }
+/// Adds the bytes, each that is no printed character of ASCII as `\x` and two digits.
+pub(crate) fn put_shown<A: Allocator>(text: &mut Vec<u8, A>, bytes: &[u8]) -> Result<(), AllocError>
+    ensures { OnOk result (text.new.items ≡ text.old.items ++ flat_map shown bytes.now) }
 {
-    let mut text = Vec::new(alloc);
     for byte in bytes {
-        put_shown(&mut text, *byte)?;
+        put_shown_byte(text, *byte)?;
     }
-    Ok(text)
+    Ok(())
 }
 
 // Adds the byte, or what stands for it.
-fn put_shown<A: Allocator>(text: &mut Vec<u8, A>, byte: u8) -> Result<(), AllocError>
+fn put_shown_byte<A: Allocator>(text: &mut Vec<u8, A>, byte: u8) -> Result<(), AllocError>
     ensures { OnOk result (text.new.items ≡ text.old.items ++ shown byte) }
 {
     if byte >= 32 && byte < 127 {
@@ -39,22 +38,21 @@ pub(crate) fn put_quoted<A: Allocator + Copy>(
 ) -> Result<(), AllocError>
     ensures { OnOk result (out.new.items ≡ out.old.items ++ quoted bytes.now) }
 {
-    let text = shown(alloc, bytes)?;
-    let inner = inside_quotes(alloc, &text)?;
+    let mut text = Vec::new(alloc);
+    put_shown(&mut text, bytes)?;
     out.extend_from_slice(b"\"")?;
-    out.extend_from_slice(&inner)?;
+    put_inside_quotes(out, &text)?;
     out.extend_from_slice(b"\"")
 }
 
-// The bytes with `\` in front of a quote or `\`.
-fn inside_quotes<A: Allocator + Copy>(alloc: A, bytes: &[u8]) -> Result<Vec<u8, A>, AllocError>
-    ensures { IfOk result (λ text. text.items ≡ flat_map inside_quotes bytes.now) }
+// Adds the bytes with `\` in front of a quote or `\`.
+fn put_inside_quotes<A: Allocator>(out: &mut Vec<u8, A>, bytes: &[u8]) -> Result<(), AllocError>
+    ensures { OnOk result (out.new.items ≡ out.old.items ++ flat_map inside_quotes bytes.now) }
 {
-    let mut text = Vec::new(alloc);
     for byte in bytes {
-        put_inside(&mut text, *byte)?;
+        put_inside(out, *byte)?;
     }
-    Ok(text)
+    Ok(())
 }
 
 // Adds the byte, with `\` in front where it needs one.

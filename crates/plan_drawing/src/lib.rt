@@ -6,6 +6,8 @@ mod ends;
 mod escaping;
 mod marks;
 mod notes;
+mod patterns;
+mod pieces;
 mod rows;
 mod sheet;
 mod text;

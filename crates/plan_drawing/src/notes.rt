@@ -1,61 +1,48 @@
 //! What stands behind the rows of a picture, before it is escaped: lines, tags, and what keeps.
 
-use crate::rows::Row;
+use crate::patterns::put_patterns;
+use crate::pieces::{Piece, joined};
+use crate::rows::{Kind, Row};
 use crate::sheet::Sheet;
-use crate::words::put_patterns;
 use relay_conf::Output;
-use relay_net::{Entrance, keeps};
+use relay_net::keeps;
 use std::alloc::{AllocError, Allocator};
 
-impl<A: Allocator + Copy> Sheet<'_, A> {
+impl<'a, A: Allocator + Copy> Sheet<'a, A> {
     /// What is said of the row, if anything.
-    pub fn note(&self, row: &Row<'_, A>) -> Result<Vec<u8, A>, AllocError> {
-        match row {
-            Row::Client { number, .. } => self.plan_line(self.plan.client_lines().get(*number)),
-            Row::Relay { place, .. } => match self.plan.relay_lines().get(*place) {
-                Some(found) => self.plan_line(Some(&found.line)),
-                None => self.plan_line(None),
-            },
-            Row::Source { source, .. } => {
-                let line = source.line;
-                Ok(format!(in self.alloc; "line {line}")?.into_bytes())
-            }
-            Row::Scope { at, .. } => self.scope_note(*at),
-            Row::Match { at, index, .. } => self.match_note(*at, *index),
-            Row::Output { output, .. } => self.output_note(*output),
-            Row::Server { .. } => Ok(Vec::new(self.alloc)),
+    pub fn note(&self, row: &Row<'a, A>) -> Result<Vec<u8, A>, AllocError> {
+        match &row.kind {
+            Kind::Client(_) | Kind::Relay(_) => self.line_note(b"plan line ", row.line),
+            Kind::Source(_) => self.line_note(b"line ", row.line),
+            Kind::Scope(_) => self.scope_note(row),
+            Kind::Match => self.match_note(row),
+            Kind::Output(output) => Vec::from_slice(self.alloc, output_note(*output)),
+            Kind::Server(_) => Ok(Vec::new(self.alloc)),
         }
     }
 
-    // A line of the plan.
-    fn plan_line(&self, line: Option<&usize>) -> Result<Vec<u8, A>, AllocError> {
-        match line {
-            Some(line) => {
-                let line = *line;
-                Ok(format!(in self.alloc; "plan line {line}")?.into_bytes())
-            }
-            None => Ok(Vec::new(self.alloc)),
-        }
+    fn line_note(&self, text: &'static [u8], line: usize) -> Result<Vec<u8, A>, AllocError> {
+        joined(self.alloc, &[Piece::Text(text), Piece::Number(line)])
     }
 
     // The tags of the scope's labels.
-    fn scope_note(&self, at: Entrance) -> Result<Vec<u8, A>, AllocError> {
-        let tags = self.label_tags(at)?;
-        said_of(self.alloc, "may get", &tags, "no label")
+    fn scope_note(&self, row: &Row<'a, A>) -> Result<Vec<u8, A>, AllocError> {
+        let tags = self.label_tags(row)?;
+        self.said_of(b"may get", &tags, b"no label")
     }
 
     // The tags of the match's reaches.
-    fn match_note(&self, at: Entrance, index: usize) -> Result<Vec<u8, A>, AllocError> {
-        let tags = self.reach_tags(at, index)?;
-        said_of(self.alloc, "reached by", &tags, "not reached")
+    fn match_note(&self, row: &Row<'a, A>) -> Result<Vec<u8, A>, AllocError> {
+        let tags = self.reach_tags(row)?;
+        self.said_of(b"reached by", &tags, b"not reached")
     }
 
     // The tags of the scope's labels, each behind a space.
-    fn label_tags(&self, at: Entrance) -> Result<Vec<u8, A>, AllocError> {
+    fn label_tags(&self, row: &Row<'a, A>) -> Result<Vec<u8, A>, AllocError> {
         let mut tags = Vec::new(self.alloc);
         let mut count = 0;
         for label in self.plan.labels() {
-            if label.place == at.relay && label.scope == at.scope {
+            if label.place == row.place && label.scope == row.scope {
                 put_patterns(&mut tags, &label.patterns, &mut count)?;
             }
         }
@@ -63,42 +50,34 @@ impl<A: Allocator + Copy> Sheet<'_, A> {
     }
 
     /// The tags of the match's reaches, each behind a space.
-    pub fn reach_tags(&self, at: Entrance, index: usize) -> Result<Vec<u8, A>, AllocError> {
+    pub fn reach_tags(&self, row: &Row<'a, A>) -> Result<Vec<u8, A>, AllocError> {
         let mut tags = Vec::new(self.alloc);
         let mut count = 0;
         for reach in self.plan.reaches() {
-            if reach.place == at.relay && reach.scope == at.scope && reach.rule == index {
+            if reach.place == row.place && reach.scope == row.scope && reach.rule == row.index {
                 put_patterns(&mut tags, &reach.patterns, &mut count)?;
             }
         }
         Ok(tags)
     }
 
-    // Whether the output keeps; nothing of a relabel.
-    fn output_note(&self, output: &Output<A>) -> Result<Vec<u8, A>, AllocError> {
-        if matches!(output, Output::Relabel { .. }) {
-            return Ok(Vec::new(self.alloc));
-        }
-        let said = if keeps(output) {
-            "keeps"
-        } else {
-            "doesn't keep"
-        };
-        Vec::from_slice(self.alloc, said.as_bytes())
+    // The words and the tags behind them; other words where there are none.
+    fn said_of(
+        &self,
+        words: &'static [u8],
+        tags: &[u8],
+        none: &'static [u8],
+    ) -> Result<Vec<u8, A>, AllocError> {
+        let said = if tags.is_empty() { none } else { words };
+        joined(self.alloc, &[Piece::Text(said), Piece::Text(tags)])
     }
 }
 
-// The words and the tags behind them; other words where there are none.
-fn said_of<A: Allocator + Copy>(
-    alloc: A,
-    words: &str,
-    tags: &[u8],
-    none: &str,
-) -> Result<Vec<u8, A>, AllocError> {
-    if tags.is_empty() {
-        return Vec::from_slice(alloc, none.as_bytes());
+/// Whether the output keeps; nothing of a relabel.
+pub(crate) fn output_note<A: Allocator>(output: &Output<A>) -> &'static [u8] {
+    match output {
+        Output::Relabel { .. } => b"",
+        _ if keeps(output) => b"keeps",
+        _ => b"doesn't keep",
     }
-    let mut said = Vec::from_slice(alloc, words.as_bytes())?;
-    said.extend_from_slice(tags)?;
-    Ok(said)
 }

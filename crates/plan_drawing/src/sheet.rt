@@ -1,11 +1,10 @@
 //! What a picture is made from.
 
-use crate::marks::{Mark, is_at, is_nowhere, marks_of};
-use crate::rows::{Row, Rows, rows_of};
-use loss_checker::BrokenRule;
+use crate::marks::{Mark, is_at};
+use crate::rows::Row;
 use plan_advice::Texts;
 use plan_lines::Plan;
-use std::alloc::{AllocError, Allocator};
+use std::alloc::Allocator;
 
 /// A plan and its texts, with the rows of a picture and the places where rules are broken.
 #[derive(Drop)]
@@ -13,8 +12,8 @@ pub(crate) struct Sheet<'a, A: Allocator> {
     pub alloc: A,
     pub plan: &'a Plan<A>,
     pub texts: &'a Texts<'a, A>,
-    pub rows: Rows<'a, A>,
-    pub marks: Vec<Mark, A>,
+    pub rows: &'a [Row<'a, A>],
+    pub marks: &'a [Mark],
 }
 
 impl<'a, A: Allocator + Copy> Sheet<'a, A> {
@@ -23,20 +22,21 @@ impl<'a, A: Allocator + Copy> Sheet<'a, A> {
         alloc: A,
         plan: &'a Plan<A>,
         texts: &'a Texts<'a, A>,
-        broken: &[BrokenRule<A>],
-    ) -> Result<Sheet<'a, A>, AllocError> {
-        Ok(Sheet {
+        rows: &'a [Row<'a, A>],
+        marks: &'a [Mark],
+    ) -> Sheet<'a, A> {
+        Sheet {
             alloc,
             plan,
             texts,
-            rows: rows_of(alloc, plan)?,
-            marks: marks_of(alloc, broken)?,
-        })
+            rows,
+            marks,
+        }
     }
 
     /// Whether a rule is broken at this row.
     pub fn is_broken(&self, row: &Row<'_, A>) -> bool {
-        for mark in &self.marks {
+        for mark in self.marks {
             if is_at(self.plan, row, mark.place) {
                 return true;
             }
@@ -44,14 +44,13 @@ impl<'a, A: Allocator + Copy> Sheet<'a, A> {
         false
     }
 
-    /// The marks that stand at no row.
-    pub fn others(&self) -> Result<Vec<Mark, A>, AllocError> {
-        let mut others = Vec::new(self.alloc);
-        for mark in &self.marks {
-            if is_nowhere(self.plan, &self.rows, *mark) {
-                others.push(*mark)?;
+    /// Whether no row stands where the rule is broken.
+    pub fn is_nowhere(&self, mark: Mark) -> bool {
+        for row in self.rows {
+            if is_at(self.plan, row, mark.place) {
+                return false;
             }
         }
-        Ok(others)
+        true
     }
 }

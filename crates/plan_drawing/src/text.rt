@@ -2,9 +2,9 @@
 
 ghost use Rattle.std.specs.Prelude.{◌≤◌};
 
-use crate::escaping::shown;
-use crate::marks::{Mark, is_at};
-use crate::rows::Row;
+use crate::escaping::put_shown;
+use crate::marks::{Mark, is_at, marks_of};
+use crate::rows::{Kind, Row, rows_of};
 use crate::sheet::Sheet;
 use loss_checker::BrokenRule;
 use plan_advice::Texts;
@@ -27,39 +27,51 @@ pub fn draw_text<A: Allocator + Copy>(
     texts: &Texts<'_, A>,
     broken: &[BrokenRule<A>],
 ) -> Result<Vec<u8, A>, AllocError> {
-    let sheet = Sheet::new(alloc, plan, texts, broken)?;
-    let mut out = Vec::new(alloc);
-    for row in &sheet.rows {
-        sheet.put_row(&mut out, row)?;
-    }
-    sheet.put_others(&mut out)?;
-    Ok(out)
+    let rows = rows_of(alloc, plan)?;
+    let marks = marks_of(alloc, broken)?;
+    Sheet::new(alloc, plan, texts, &rows, &marks).text()
 }
 
-impl<A: Allocator + Copy> Sheet<'_, A> {
-    // Adds the line of the row, and behind that where a client comes in, and marks.
-    fn put_row(&self, out: &mut Vec<u8, A>, row: &Row<'_, A>) -> Result<(), AllocError> {
-        let depth = depth_of(row);
+impl<'a, A: Allocator + Copy> Sheet<'a, A> {
+    // The picture.
+    fn text(&self) -> Result<Vec<u8, A>, AllocError> {
+        let mut out = Vec::new(self.alloc);
+        self.put_rows(&mut out)?;
+        self.put_others(&mut out)?;
+        Ok(out)
+    }
+
+    // Adds the line of each row, and behind that where a client comes in, and marks.
+    fn put_rows(&self, out: &mut Vec<u8, A>) -> Result<(), AllocError> {
+        for row in self.rows {
+            self.put_row(out, row)?;
+            self.put_entry(out, row)?;
+            self.put_marks(out, row)?;
+        }
+        Ok(())
+    }
+
+    // Adds the line of the row.
+    fn put_row(&self, out: &mut Vec<u8, A>, row: &Row<'a, A>) -> Result<(), AllocError> {
         let words = self.words(row)?;
         let note = self.note(row)?;
-        put_line(self.alloc, out, depth, &words, &note)?;
-        if let Row::Client { number, client: _ } = row {
-            let entry = self.entry_words(*number)?;
-            put_line(self.alloc, out, 2, &entry, b"")?;
-        }
-        self.put_marks(out, row, depth + 2)
+        put_line(out, depth_of(row), &words, &note)
+    }
+
+    // Adds the line that says where a client comes in.
+    fn put_entry(&self, out: &mut Vec<u8, A>, row: &Row<'a, A>) -> Result<(), AllocError> {
+        let Kind::Client(client) = &row.kind else {
+            return Ok(());
+        };
+        let entry = self.entry_words(row.place, *client)?;
+        put_line(out, 2, &entry, b"")
     }
 
     // Adds a line for each rule that is broken at the row.
-    fn put_marks(
-        &self,
-        out: &mut Vec<u8, A>,
-        row: &Row<'_, A>,
-        depth: usize,
-    ) -> Result<(), AllocError> {
-        for mark in &self.marks {
+    fn put_marks(&self, out: &mut Vec<u8, A>, row: &Row<'a, A>) -> Result<(), AllocError> {
+        for mark in self.marks {
             if is_at(self.plan, row, mark.place) {
-                self.put_mark(out, *mark, depth)?;
+                self.put_mark(out, *mark, depth_of(row) + 2)?;
             }
         }
         Ok(())
@@ -70,17 +82,24 @@ impl<A: Allocator + Copy> Sheet<'_, A> {
         let Mark { rule, place } = mark;
         let words = format!(in self.alloc; "! {rule} is broken here")?;
         let note = format!(in self.alloc; "{place}")?;
-        put_line(self.alloc, out, depth, words.as_bytes(), note.as_bytes())
+        put_line(out, depth, words.as_bytes(), note.as_bytes())
     }
 
     // Adds a line for each rule that is broken at no row.
     fn put_others(&self, out: &mut Vec<u8, A>) -> Result<(), AllocError> {
-        for mark in &self.others()? {
-            let Mark { rule, place } = *mark;
-            let words = format!(in self.alloc; "! {rule} {place}")?;
-            put_line(self.alloc, out, 0, words.as_bytes(), b"")?;
+        for mark in self.marks {
+            if self.is_nowhere(*mark) {
+                self.put_other(out, *mark)?;
+            }
         }
         Ok(())
+    }
+
+    // Adds the line of a rule that is broken at no row.
+    fn put_other(&self, out: &mut Vec<u8, A>, mark: Mark) -> Result<(), AllocError> {
+        let Mark { rule, place } = mark;
+        let words = format!(in self.alloc; "! {rule} {place}")?;
+        put_line(out, 0, words.as_bytes(), b"")
     }
 }
 
@@ -88,44 +107,39 @@ impl<A: Allocator + Copy> Sheet<'_, A> {
 fn depth_of<A: Allocator>(row: &Row<'_, A>) -> usize
     ensures { result ≤ 8 }
 {
-    match row {
-        Row::Client { .. } | Row::Relay { .. } => 0,
-        Row::Source { .. } | Row::Scope { .. } => 2,
-        Row::Match { .. } => 4,
-        Row::Output { .. } => 6,
-        Row::Server { .. } => 8,
+    match &row.kind {
+        Kind::Client(_) | Kind::Relay(_) => 0,
+        Kind::Source(_) | Kind::Scope(_) => 2,
+        Kind::Match => 4,
+        Kind::Output(_) => 6,
+        Kind::Server(_) => 8,
     }
 }
 
 // Adds a line: spaces, the words, and the note in its column.
-fn put_line<A: Allocator + Copy>(
-    alloc: A,
+fn put_line<A: Allocator>(
     out: &mut Vec<u8, A>,
     depth: usize,
     words: &[u8],
     note: &[u8],
 ) -> Result<(), AllocError> {
-    let front = shown(alloc, words)?;
-    put_spaces(out, depth)?;
-    out.extend_from_slice(&front)?;
+    let start = out.len();
+    put_spaces(out, start, depth)?;
+    put_shown(out, words)?;
     if !note.is_empty() {
-        let behind = shown(alloc, note)?;
-        put_spaces(
-            out,
-            NOTE_COLUMN
-                .saturating_sub(depth)
-                .saturating_sub(front.len()),
-        )?;
+        put_spaces(out, start, NOTE_COLUMN)?;
         out.extend_from_slice(b"  ")?;
-        out.extend_from_slice(&behind)?;
+        put_shown(out, note)?;
     }
     out.extend_from_slice(b"\n")
 }
 
-// Adds this many spaces.
-fn put_spaces<A: Allocator>(out: &mut Vec<u8, A>, count: usize) -> Result<(), AllocError> {
-    for _ in 0..count {
-        out.extend_from_slice(b" ")?;
-    }
-    Ok(())
+// Adds spaces up to this column of the line that starts there.
+fn put_spaces<A: Allocator>(
+    out: &mut Vec<u8, A>,
+    start: usize,
+    column: usize,
+) -> Result<(), AllocError> {
+    let end = start.saturating_add(column).max(out.len());
+    out.resize(end, b' ')
 }

@@ -1,183 +1,191 @@
 //! What stands in the rows of a picture, before it is escaped.
 
-use crate::ends::{End, end_of, end_of_client, scope_name};
-use crate::rows::Row;
+use crate::ends::{end_of, end_of_client, scope_name};
+use crate::patterns::put_patterns;
+use crate::pieces::{Piece, joined};
+use crate::rows::{Kind, Row};
 use crate::sheet::Sheet;
-use relay_conf::{MatchRule, Output, ScopeNo, Server, Source};
-use relay_net::{Client, Entrance, Node};
+use relay_conf::{Output, Scope, Server, Source};
+use relay_net::{Client, Node};
 use std::alloc::{AllocError, Allocator};
-use tag_pattern::{PatternItem, Plain};
-use text_lines::lines;
 
-// How many patterns are shown in a row.
-const MOST_PATTERNS: usize = 4;
-
-impl<A: Allocator + Copy> Sheet<'_, A> {
+impl<'a, A: Allocator + Copy> Sheet<'a, A> {
     /// What the row is.
-    pub fn words(&self, row: &Row<'_, A>) -> Result<Vec<u8, A>, AllocError> {
-        match row {
-            Row::Client { client, .. } => self.client_words(*client),
-            Row::Relay { place, node } => self.relay_words(*place, *node),
-            Row::Source { place, source, .. } => self.source_words(*place, *source),
-            Row::Scope { at, .. } => self.scope_words(*at),
-            Row::Match { at, index, rule } => self.match_words(at.relay, *index, *rule),
-            Row::Output { at, output, .. } => self.output_words(at.relay, *output),
-            Row::Server { server, .. } => self.server_words(*server),
+    pub fn words(&self, row: &Row<'a, A>) -> Result<Vec<u8, A>, AllocError> {
+        match &row.kind {
+            Kind::Client(client) => client_words(self.alloc, *client),
+            Kind::Relay(node) => self.relay_words(row.place, *node),
+            Kind::Source(source) => self.source_words(row.place, *source),
+            Kind::Scope(scope) => scope_words(self.alloc, row.scope, *scope),
+            Kind::Match => self.match_words(row),
+            Kind::Output(output) => self.output_words(row.place, *output),
+            Kind::Server(server) => self.server_words(*server),
         }
     }
 
-    fn client_words(&self, client: &Client<A>) -> Result<Vec<u8, A>, AllocError> {
-        let relay = client.relay;
-        let port = client.port;
-        let mut words = format!(in self.alloc; "client {relay} {port}")?.into_bytes();
-        let mut count = 0;
-        put_patterns(&mut words, &client.patterns, &mut count)?;
-        Ok(words)
-    }
-
-    fn relay_words(&self, place: usize, node: &Node<A>) -> Result<Vec<u8, A>, AllocError> {
-        let number = node.number;
-        let host = node.host.as_str();
-        let folder = self.folder(place);
-        let conf = self.texts.conf_names.get(place).copied().unwrap_or("");
-        let words = format!(in self.alloc; "relay {number} {host} {folder} ({conf})")?;
-        Ok(words.into_bytes())
+    fn relay_words(&self, place: usize, node: &'a Node<A>) -> Result<Vec<u8, A>, AllocError> {
+        joined(
+            self.alloc,
+            &[
+                Piece::Text(b"relay "),
+                Piece::Number(node.number as usize),
+                Piece::Text(b" "),
+                Piece::Text(node.host.as_bytes()),
+                Piece::Text(b" "),
+                Piece::Text(self.folder(place)),
+                Piece::Text(b" ("),
+                Piece::Text(self.conf_name(place)),
+                Piece::Text(b")"),
+            ],
+        )
     }
 
     // The folder of the relay at this place.
-    fn folder(&self, place: usize) -> &str {
+    fn folder(&self, place: usize) -> &'a [u8] {
         match self.plan.relay_lines().get(place) {
-            Some(found) => found.folder.as_str(),
-            None => "",
+            Some(found) => found.folder.as_bytes(),
+            None => b"",
         }
     }
 
-    fn source_words(&self, place: usize, source: &Source<A>) -> Result<Vec<u8, A>, AllocError> {
-        let port = source.port;
-        let scope = self.scope_at(place, source.label);
-        let mut words = format!(in self.alloc; "source {port} -> {scope}")?.into_bytes();
-        if let Some(prefix) = &source.prefix {
-            words.extend_from_slice(b", with the prefix ")?;
-            words.extend_from_slice(prefix.as_bytes())?;
+    // The name of the configuration of the relay at this place.
+    fn conf_name(&self, place: usize) -> &'a [u8] {
+        match self.texts.conf_names.get(place) {
+            Some(name) => name.as_bytes(),
+            None => b"",
         }
-        Ok(words)
+    }
+
+    fn source_words(&self, place: usize, source: &'a Source<A>) -> Result<Vec<u8, A>, AllocError> {
+        let (between, prefix): (&[u8], &[u8]) = match &source.prefix {
+            Some(prefix) => (b", with the prefix ", prefix.as_bytes()),
+            None => (b"", b""),
+        };
+        joined(
+            self.alloc,
+            &[
+                Piece::Text(b"source "),
+                Piece::Number(source.port as usize),
+                Piece::Text(b" -> "),
+                Piece::Text(self.scope_at(place, source.label.0)),
+                Piece::Text(between),
+                Piece::Text(prefix),
+            ],
+        )
     }
 
     // The name of this scope of the relay at this place.
-    fn scope_at(&self, place: usize, scope: ScopeNo) -> &str {
+    fn scope_at(&self, place: usize, scope: usize) -> &'a [u8] {
         match self.plan.net().relays().get(place) {
-            Some(node) => scope_name(node, scope.0),
-            None => "",
+            Some(node) => scope_name(node, scope),
+            None => b"",
         }
     }
 
-    fn scope_words(&self, at: Entrance) -> Result<Vec<u8, A>, AllocError> {
-        let front = if at.scope > 0 { "label " } else { "" };
-        let name = self.scope_at(at.relay, ScopeNo(at.scope));
-        Ok(format!(in self.alloc; "{front}{name}")?.into_bytes())
+    fn match_words(&self, row: &Row<'a, A>) -> Result<Vec<u8, A>, AllocError> {
+        let site = self.texts.conf_site(row.place, row.line);
+        let text = site.line_text(self.alloc)?;
+        joined(
+            self.alloc,
+            &[
+                Piece::Text(b"match "),
+                Piece::Number(row.index),
+                Piece::Text(b" "),
+                Piece::Text(text.trim_ascii()),
+                Piece::Text(b" line "),
+                Piece::Number(row.line),
+            ],
+        )
     }
 
-    fn match_words(
-        &self,
-        place: usize,
-        index: usize,
-        rule: &MatchRule<A>,
-    ) -> Result<Vec<u8, A>, AllocError> {
-        let line = rule.line;
-        let mut words = format!(in self.alloc; "match {index} ")?.into_bytes();
-        if let Some(conf) = self.texts.confs.get(place) {
-            let all = lines(self.alloc, conf)?;
-            if let Some(text) = all.get(line.saturating_sub(1)) {
-                words.extend_from_slice(text.trim_ascii())?;
-            }
-        }
-        let behind = format!(in self.alloc; " line {line}")?;
-        words.extend_from_slice(behind.as_bytes())?;
-        Ok(words)
-    }
-
-    fn output_words(&self, place: usize, output: &Output<A>) -> Result<Vec<u8, A>, AllocError> {
-        let words = match output {
-            Output::Null { .. } => format!(in self.alloc; "null")?,
-            Output::Relabel { target, .. } => {
-                let scope = self.scope_at(place, *target);
-                format!(in self.alloc; "relabel -> {scope}")?
-            }
-            Output::Forward { .. } => format!(in self.alloc; "forward")?,
-            Output::File { settings, .. } => {
-                let path = settings.path.as_str();
-                format!(in self.alloc; "file {path}")?
-            }
+    fn output_words(&self, place: usize, output: &'a Output<A>) -> Result<Vec<u8, A>, AllocError> {
+        let (kind, name): (&[u8], &[u8]) = match output {
+            Output::Null { .. } => (b"null", b""),
+            Output::Relabel { target, .. } => (b"relabel -> ", self.scope_at(place, target.0)),
+            Output::Forward { .. } => (b"forward", b""),
+            Output::File { settings, .. } => (b"file ", settings.path.as_bytes()),
         };
-        Ok(words.into_bytes())
+        joined(self.alloc, &[Piece::Text(kind), Piece::Text(name)])
     }
 
-    fn server_words(&self, server: &Server<A>) -> Result<Vec<u8, A>, AllocError> {
-        let host = server.host.as_str();
-        let port = server.port;
-        let mut words = format!(in self.alloc; "server {host}:{port} -> ")?.into_bytes();
-        match end_of(self.plan, host.as_bytes(), port) {
-            Some(end) => {
-                let number = end.node.number;
-                let scope = scope_name(end.node, end.at.scope);
-                let target = format!(in self.alloc; "relay {number} {scope}")?;
-                words.extend_from_slice(target.as_bytes())?;
-            }
-            None => words.extend_from_slice(b"nowhere")?,
+    fn server_words(&self, server: &'a Server<A>) -> Result<Vec<u8, A>, AllocError> {
+        let host = server.host.as_bytes();
+        match end_of(self.plan, host, server.port) {
+            Some(end) => joined(
+                self.alloc,
+                &[
+                    Piece::Text(b"server "),
+                    Piece::Text(host),
+                    Piece::Text(b":"),
+                    Piece::Number(server.port as usize),
+                    Piece::Text(b" -> relay "),
+                    Piece::Number(end.node.number as usize),
+                    Piece::Text(b" "),
+                    Piece::Text(scope_name(end.node, end.at.scope)),
+                ],
+            ),
+            None => joined(
+                self.alloc,
+                &[
+                    Piece::Text(b"server "),
+                    Piece::Text(host),
+                    Piece::Text(b":"),
+                    Piece::Number(server.port as usize),
+                    Piece::Text(b" -> nowhere"),
+                ],
+            ),
         }
-        Ok(words)
     }
 
-    /// Where the messages of the client come in.
-    pub fn entry_words(&self, number: usize) -> Result<Vec<u8, A>, AllocError> {
-        match end_of_client(self.plan, number) {
-            Some(end) => self.words_of_end(&end),
+    /// Where the messages of the client at this place come in.
+    pub fn entry_words(&self, place: usize, client: &Client<A>) -> Result<Vec<u8, A>, AllocError> {
+        match end_of_client(self.plan, client, place) {
+            Some(end) => joined(
+                self.alloc,
+                &[
+                    Piece::Text(b"relay "),
+                    Piece::Number(end.node.number as usize),
+                    Piece::Text(b" "),
+                    Piece::Text(self.folder(end.at.relay)),
+                    Piece::Text(b", source "),
+                    Piece::Number(end.port as usize),
+                    Piece::Text(b" -> "),
+                    Piece::Text(scope_name(end.node, end.at.scope)),
+                ],
+            ),
             None => Vec::from_slice(self.alloc, b"nowhere"),
         }
     }
-
-    fn words_of_end(&self, end: &End<'_, A>) -> Result<Vec<u8, A>, AllocError> {
-        let number = end.node.number;
-        let folder = self.folder(end.at.relay);
-        let scope = scope_name(end.node, end.at.scope);
-        let port = match end.node.relay.sources.get(end.source) {
-            Some(source) => source.port,
-            None => 0,
-        };
-        let words = format!(in self.alloc; "relay {number} {folder}, source {port} -> {scope}")?;
-        Ok(words.into_bytes())
-    }
 }
 
-/// Adds each pattern behind a space, as long as there are few; `count` goes on with each.
-pub(crate) fn put_patterns<A: Allocator>(
-    out: &mut Vec<u8, A>,
-    patterns: &[Plain<A>],
-    count: &mut usize,
-) -> Result<(), AllocError> {
-    for pattern in patterns {
-        if *count < MOST_PATTERNS {
-            out.extend_from_slice(b" ")?;
-            put_pattern(out, pattern)?;
-        } else if *count == MOST_PATTERNS {
-            out.extend_from_slice(b" ..")?;
-        }
-        *count = count.saturating_add(1);
-    }
-    Ok(())
+fn client_words<A: Allocator + Copy>(
+    alloc: A,
+    client: &Client<A>,
+) -> Result<Vec<u8, A>, AllocError> {
+    let mut words = joined(
+        alloc,
+        &[
+            Piece::Text(b"client "),
+            Piece::Number(client.relay as usize),
+            Piece::Text(b" "),
+            Piece::Number(client.port as usize),
+        ],
+    )?;
+    let mut count = 0;
+    put_patterns(&mut words, &client.patterns, &mut count)?;
+    Ok(words)
 }
 
-// Adds the pattern's text: its parts, with dots between them.
-fn put_pattern<A: Allocator>(out: &mut Vec<u8, A>, pattern: &Plain<A>) -> Result<(), AllocError> {
-    for (place, item) in pattern.items().iter().enumerate() {
-        if place > 0 {
-            out.extend_from_slice(b".")?;
-        }
-        match item {
-            PatternItem::Literal(text) => out.extend_from_slice(text)?,
-            PatternItem::AnyPart => out.extend_from_slice(b"*")?,
-            PatternItem::AnyParts => out.extend_from_slice(b"**")?,
-        }
+fn scope_words<A: Allocator + Copy>(
+    alloc: A,
+    number: usize,
+    scope: &Scope<A>,
+) -> Result<Vec<u8, A>, AllocError> {
+    if number == 0 {
+        return Vec::from_slice(alloc, b"top");
     }
-    Ok(())
+    joined(
+        alloc,
+        &[Piece::Text(b"label "), Piece::Text(scope.name.as_bytes())],
+    )
 }
