@@ -12,6 +12,8 @@ mod meetings;
 #[cfg(test)]
 mod network;
 #[cfg(test)]
+mod parts;
+#[cfg(test)]
 mod relays;
 #[cfg(test)]
 mod shelves;

@@ -14,11 +14,11 @@ const MOST_DIGESTS: u32 = 1_000_000;
 
 // Works at each of two chunks until the other's carry has begun too, and stops the workers once
 // both are carried.
-#[derive(Drop)]
+#[derive(Clone, Copy)]
 pub struct Meeting<'a> {
-    pub first: AtomicBool,
-    pub second: AtomicBool,
-    pub carried: AtomicU64,
+    pub first: &'a AtomicBool,
+    pub second: &'a AtomicBool,
+    pub carried: &'a AtomicU64,
     pub stop: &'a AtomicBool,
 }
 
@@ -41,14 +41,14 @@ impl<'a, R: Wait, D: Dir> Courier<R, D, Global> for Meeting<'a> {
         chunk: &ClaimView<'_, D, Global>,
     ) -> Result<Evidence<Global>, CarryFault> {
         let met = if chunk.id().serial == 0 {
-            meets(&self.first, &self.second)
+            meets(self.first, self.second)
         } else {
-            meets(&self.second, &self.first)
+            meets(self.second, self.first)
         };
         if !met {
             return Err(CarryFault::Timeout);
         }
-        raise_at(&self.carried, 2, self.stop);
+        raise_at(self.carried, 2, self.stop);
         Ok(Evidence::written(chunk.claim()))
     }
 }
@@ -61,11 +61,21 @@ fn raise_at(carried: &AtomicU64, most: u64, stop: &AtomicBool) {
 }
 
 // Writes to a sink, and stops the workers after the third chunk that is written.
-#[derive(Drop)]
 pub struct Third<'a, S: Dir> {
     pub sink: &'a SinkCourier<S, Global>,
-    pub carried: AtomicU64,
+    pub carried: &'a AtomicU64,
     pub stop: &'a AtomicBool,
+}
+
+// By hand, so that its parts aren't gone through where it ends.
+impl<'a, S: Dir> Drop for Third<'a, S> {
+    fn drop(self) {
+        let Third {
+            sink: _,
+            carried: _,
+            stop: _,
+        } = self;
+    }
 }
 
 impl<'a, R: Wait + Clock, D: Dir, S: Dir + Drop> Courier<R, D, Global> for Third<'a, S> {
@@ -75,13 +85,13 @@ impl<'a, R: Wait + Clock, D: Dir, S: Dir + Drop> Courier<R, D, Global> for Third
         chunk: &ClaimView<'_, D, Global>,
     ) -> Result<Evidence<Global>, CarryFault> {
         let evidence = self.sink.carry(rt, chunk)?;
-        raise_at(&self.carried, 3, self.stop);
+        raise_at(self.carried, 3, self.stop);
         Ok(evidence)
     }
 }
 
 // Says that a chunk is written, and stops the workers then.
-#[derive(Drop)]
+#[derive(Clone, Copy)]
 pub struct Plain<'a> {
     pub stop: &'a AtomicBool,
 }

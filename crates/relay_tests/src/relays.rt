@@ -2,7 +2,6 @@
 
 use relay_conf::{Output, Relay};
 use std::alloc::Global;
-use std::test::Fail;
 
 // One sink, whose buffer is in memory.
 pub const SINK: &str =
@@ -21,24 +20,30 @@ pub const FORWARD: &str =
     "<source>\n  @type forward\n  bind 127.0.0.1\n</source>\n<match **>\n  @type forward\n  require_ack_response true\n  ack_response_timeout 20\n  <server>\n    host 127.0.0.1\n    port 1\n  </server>\n  <buffer>\n    retry_forever true\n    flush_mode immediate\n  </buffer>\n</match>\n";
 
 // The relay that the text describes; each of its sources takes any port that is free.
-pub fn relay_of(alloc: Global, text: &str) -> Result<Relay<Global>, Fail> {
+pub fn relay_of(alloc: Global, text: &str) -> Option<Relay<Global>> {
     let Ok(elements) = conf_text::read(alloc, text.as_bytes()) else {
-        return Err(Fail::from("the text has a fault"));
+        return None;
     };
-    let Ok(mut relay) = Relay::read(alloc, &elements) else {
-        return Err(Fail::from("the relay has a fault"));
-    };
-    for source in relay.sources.iter_mut() {
-        source.port = 0;
+    match Relay::read(alloc, &elements) {
+        Ok(mut relay) => {
+            for source in relay.sources.iter_mut() {
+                source.port = 0;
+            }
+            Some(relay)
+        }
+        Err(_) => None,
     }
-    Ok(relay)
 }
 
 // The same, whose forward outputs send to this port.
-pub fn relay_to(alloc: Global, text: &str, port: u16) -> Result<Relay<Global>, Fail> {
-    let mut relay = relay_of(alloc, text)?;
-    aim(&mut relay, port);
-    Ok(relay)
+pub fn relay_to(alloc: Global, text: &str, port: u16) -> Option<Relay<Global>> {
+    match relay_of(alloc, text) {
+        Some(mut relay) => {
+            aim(&mut relay, port);
+            Some(relay)
+        }
+        None => None,
+    }
 }
 
 fn aim(relay: &mut Relay<Global>, port: u16) {

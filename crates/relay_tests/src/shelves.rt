@@ -2,11 +2,12 @@
 
 use ack_receipt::{Basis, Leaf, SharedBuffer, Takes};
 use buffer_state::{Limits, Stage};
-use buffer_store::{Buffer, BufferFault, RENEWED_PAST_IN_MEMORY, Settings};
+use buffer_store::{Buffer, RENEWED_PAST_IN_MEMORY, Settings};
 use disk_files::Dir;
 use event_modes::Entries;
+use flush_pool::SinkCourier;
 use retry_waits::RetrySettings;
-use sink_series::{ONE_FILE, Rotation, SeriesFault};
+use sink_series::{ONE_FILE, Rotation, Series};
 use std::alloc::{AllocError, Global};
 
 // What is behind the lock in these tests, in a folder of any kind: over one in memory all that is
@@ -36,15 +37,6 @@ pub const PATIENT: RetrySettings = RetrySettings {
     forever: true,
 };
 
-// One entry of three bytes.
-fn entries(alloc: Global) -> Result<Entries<Global>, AllocError> {
-    let mut entries = Entries::new(alloc);
-    if let Some(one) = Entries::read(alloc, &[0x92, 0x01, 0x80], 1)? {
-        entries.append(&one)?;
-    }
-    Ok(entries)
-}
-
 // A buffer in this folder with so many queued chunks of one entry each, by serials from 0, whose
 // chunks go so.
 pub fn filled<D: Dir + Drop>(
@@ -52,36 +44,38 @@ pub fn filled<D: Dir + Drop>(
     dir: D,
     chunks: usize,
     takes: Takes<Global>,
-) -> Result<Shelf<D>, BufferFault> {
-    match Buffer::open(alloc, dir, b"buf", SETTINGS) {
-        Ok(mut buffer) => {
-            put_all(alloc, &mut buffer, chunks)?;
-            Ok(SharedBuffer::new(alloc, buffer, LEAF, takes))
-        }
-        Err((fault, _dir)) => Err(fault),
+) -> Option<Shelf<D>> {
+    let Ok(mut buffer) = Buffer::open(alloc, dir, b"buf", SETTINGS) else {
+        return None;
+    };
+    if has_put_all(alloc, &mut buffer, chunks) {
+        return Some(SharedBuffer::new(alloc, buffer, LEAF, takes));
     }
+    None
 }
 
 // Appends so many chunks and queues them.
-fn put_all<D: Dir>(
-    alloc: Global,
-    buffer: &mut Buffer<D, Global>,
-    chunks: usize,
-) -> Result<(), BufferFault> {
+fn has_put_all<D: Dir>(alloc: Global, buffer: &mut Buffer<D, Global>, chunks: usize) -> bool {
+    let Ok(Some(one)) = Entries::read(alloc, &[0x92, 0x01, 0x80], 1) else {
+        return false;
+    };
     for _ in 0..chunks {
-        put(alloc, buffer)?;
+        if !has_put(buffer, &one) {
+            return false;
+        }
     }
-    Ok(())
+    true
 }
 
 // Appends a chunk and queues it.
-fn put<D: Dir>(alloc: Global, buffer: &mut Buffer<D, Global>) -> Result<(), BufferFault> {
-    let some = entries(alloc)?;
+fn has_put<D: Dir>(buffer: &mut Buffer<D, Global>, some: &Entries<Global>) -> bool {
     if some.count() == 0 {
-        return Err(BufferFault::Memory);
+        return false;
     }
-    let serial = buffer.append(b"a", &some)?.serial;
-    buffer.enqueue(serial)
+    match buffer.append(b"a", some) {
+        Ok(appended) => buffer.enqueue(appended.serial).is_ok(),
+        Err(_) => false,
+    }
 }
 
 // What lets a chunk go: this alone.
@@ -94,17 +88,38 @@ pub fn by(basis: Basis<Global>) -> Takes<Global> {
 }
 
 // Entries in the sink of this path.
-pub fn by_sink(alloc: Global, path: &[u8]) -> Result<Takes<Global>, AllocError> {
-    Ok(by(Basis::Stored(Vec::from_slice(alloc, path)?)))
+pub fn by_sink(alloc: Global, path: &[u8]) -> Option<Takes<Global>> {
+    match Vec::from_slice(alloc, path) {
+        Ok(path) => Some(by(Basis::Stored(path))),
+        Err(AllocError) => None,
+    }
 }
 
-// A sink in this folder.
-pub fn sink<S: Dir + Drop>(
+// What writes to a sink in this folder.
+pub fn sink_in<S: Dir + Drop>(
     alloc: Global,
     dir: S,
     path: &[u8],
-) -> Result<Rotation<S, Global>, SeriesFault> {
-    Rotation::open(alloc, dir, path, ONE_FILE, 0).map_err(|(fault, _dir)| fault)
+) -> Option<SinkCourier<S, Global>> {
+    match Rotation::open(alloc, dir, path, ONE_FILE, 0) {
+        Ok(sink) => Some(SinkCourier::new(sink)),
+        Err((_fault, _dir)) => None,
+    }
+}
+
+// The sink of this path that this wrote to, which nobody else has.
+pub fn series_of<S: Dir + Drop>(
+    alloc: Global,
+    sink: SinkCourier<S, Global>,
+    path: &[u8],
+) -> Option<Series<S, Global>> {
+    let Some(dir) = sink.into_dir() else {
+        return None;
+    };
+    match Series::open(alloc, dir, path) {
+        Ok(series) => Some(series),
+        Err((_fault, _dir)) => None,
+    }
 }
 
 // How many of the serials 0 to 3 are queued, as a bit each.

@@ -1,10 +1,11 @@
 //! Several workers at one buffer, side by side.
 
 use crate::meetings::{Meeting, NotFirst, Plain, Third};
-use crate::shelves::{PATIENT, Shelf, by, by_sink, filled, queued, sink};
+use crate::parts::{Part, in_memory};
+use crate::shelves::{PATIENT, Shelf, by, by_sink, filled, queued, series_of, sink_in};
 use ack_receipt::Basis;
 use buffer_store::BufferFault;
-use disk_files::{Dir, MemoryDir};
+use disk_files::Dir;
 use flush_pool::{Courier, Gate, OpenGate, Retries, SinkCourier, Worked, run_pool};
 use sink_series::Series;
 use std::alloc::Global;
@@ -54,11 +55,12 @@ fn carry_both<R: Wait + Clock + Threads + Sync, D: Dir + Send>(
     rt: &R,
     shelf: &Shelf<D>,
 ) -> Result<Worked, BufferFault> {
-    let stop = AtomicBool::new(false);
+    let (first, second) = (AtomicBool::new(false), AtomicBool::new(false));
+    let (carried, stop) = (AtomicU64::new(0), AtomicBool::new(false));
     let courier = Meeting {
-        first: AtomicBool::new(false),
-        second: AtomicBool::new(false),
-        carried: AtomicU64::new(0),
+        first: &first,
+        second: &second,
+        carried: &carried,
         stop: &stop,
     };
     let retries = Retries::new(alloc, PATIENT);
@@ -70,13 +72,13 @@ const BOTH: Worked = Worked {
     failed: 0,
 };
 
-// Whether both chunks of a buffer in this folder go so, and none is queued then.
-fn are_carried<R: Wait + Clock + Threads + Sync, D: Dir + Drop + Send>(
+/// Whether both chunks of a buffer in this folder go so, and none is queued then.
+pub fn are_carried<R: Wait + Clock + Threads + Sync, D: Dir + Drop + Send>(
     alloc: Global,
     rt: &R,
     dir: D,
 ) -> bool {
-    let Ok(shelf) = filled(alloc, dir, 2, by(Basis::Written)) else {
+    let Some(shelf) = filled(alloc, dir, 2, by(Basis::Written)) else {
         return false;
     };
     let worked = carry_both(alloc, rt, &shelf);
@@ -85,7 +87,7 @@ fn are_carried<R: Wait + Clock + Threads + Sync, D: Dir + Drop + Send>(
 
 #[test]
 fn two_chunks_are_carried_at_once(rt: HostRuntime) {
-    assert!(rt; are_carried(rt.alloc(), &rt, MemoryDir::new(rt.alloc())));
+    assert!(rt; in_memory(&rt, Part::Workers));
 }
 
 // Two workers behind a gate that keeps the first chunk.
@@ -112,13 +114,13 @@ fn purged_of<R: Wait + Clock + Threads + Sync, D: Dir + Send>(
     }
 }
 
-// Whether one of two chunks of a buffer in this folder goes so, and the first is queued then.
-fn is_kept<R: Wait + Clock + Threads + Sync, D: Dir + Drop + Send>(
+/// Whether one of two chunks of a buffer in this folder goes so, and the first is queued then.
+pub fn is_kept<R: Wait + Clock + Threads + Sync, D: Dir + Drop + Send>(
     alloc: Global,
     rt: &R,
     dir: D,
 ) -> bool {
-    let Ok(shelf) = filled(alloc, dir, 2, by(Basis::Written)) else {
+    let Some(shelf) = filled(alloc, dir, 2, by(Basis::Written)) else {
         return false;
     };
     let purged = purged_of(alloc, rt, &shelf);
@@ -127,7 +129,7 @@ fn is_kept<R: Wait + Clock + Threads + Sync, D: Dir + Drop + Send>(
 
 #[test]
 fn a_gate_keeps_one_chunk(rt: HostRuntime) {
-    assert!(rt; is_kept(rt.alloc(), &rt, MemoryDir::new(rt.alloc())));
+    assert!(rt; in_memory(&rt, Part::Gate));
 }
 
 // Two workers that write to the sink until three chunks are written.
@@ -137,10 +139,10 @@ fn write_three<R: Wait + Clock + Threads + Sync, D: Dir + Send, S: Dir + Drop + 
     shelf: &Shelf<D>,
     sink: &SinkCourier<S, Global>,
 ) -> Result<Worked, BufferFault> {
-    let stop = AtomicBool::new(false);
+    let (carried, stop) = (AtomicU64::new(0), AtomicBool::new(false));
     let courier = Third {
         sink,
-        carried: AtomicU64::new(0),
+        carried: &carried,
         stop: &stop,
     };
     let retries = Retries::new(alloc, PATIENT);
@@ -157,16 +159,9 @@ fn count_in<S: Dir>(series: &mut Series<S, Global>) -> usize {
 
 // The same of the sink that this courier has.
 fn count_of<S: Dir + Drop>(alloc: Global, sink: SinkCourier<S, Global>) -> usize {
-    let Some(dir) = sink.into_dir() else {
-        return 0;
-    };
-    match Series::open(alloc, dir, b"all") {
-        Ok(mut series) => {
-            let count = count_in(&mut series);
-            drop(series.into_dir());
-            count
-        }
-        Err(_) => 0,
+    match series_of(alloc, sink, b"all") {
+        Some(mut series) => count_in(&mut series),
+        None => 0,
     }
 }
 
@@ -175,36 +170,48 @@ const ALL: Worked = Worked {
     failed: 0,
 };
 
-// Whether two workers write three chunks of a buffer in this folder to this sink, and none is
-// queued then.
+// Whether two workers write three chunks of this buffer to this sink, and none is queued then.
 fn are_written<R: Wait + Clock + Threads + Sync, D: Dir + Drop + Send, S: Dir + Drop + Send>(
     alloc: Global,
     rt: &R,
-    dir: D,
+    shelf: Shelf<D>,
     sink: &SinkCourier<S, Global>,
-) -> Result<bool, BufferFault> {
-    let shelf = filled(alloc, dir, 3, by_sink(alloc, b"all")?)?;
+) -> bool {
     let worked = write_three(rt, alloc, &shelf, sink);
-    Ok(worked == Ok(ALL) && queued(shelf) == 0)
+    worked == Ok(ALL) && queued(shelf) == 0
 }
 
-// The same of a sink in the second folder, which has three events then.
-fn reach_the_sink<R: Wait + Clock + Threads + Sync, D: Dir + Drop + Send, S: Dir + Drop + Send>(
-    alloc: Global,
-    rt: &R,
-    dir: D,
-    sinks: S,
-) -> bool {
-    let Ok(sink) = sink(alloc, sinks, b"all") else {
+// The same of a buffer in this folder, whose chunks go by the sink.
+fn are_all_written<R, D, S>(alloc: Global, rt: &R, dir: D, sink: &SinkCourier<S, Global>) -> bool
+where
+    R: Wait + Clock + Threads + Sync,
+    D: Dir + Drop + Send,
+    S: Dir + Drop + Send,
+{
+    let Some(takes) = by_sink(alloc, b"all") else {
         return false;
     };
-    let writer = SinkCourier::new(sink);
-    let written = are_written(alloc, rt, dir, &writer);
-    written == Ok(true) && count_of(alloc, writer) == 3
+    match filled(alloc, dir, 3, takes) {
+        Some(shelf) => are_written(alloc, rt, shelf, sink),
+        None => false,
+    }
+}
+
+/// The same of a sink in the second folder, which has three events then.
+pub fn reach_the_sink<R, D, S>(alloc: Global, rt: &R, dir: D, sinks: S) -> bool
+where
+    R: Wait + Clock + Threads + Sync,
+    D: Dir + Drop + Send,
+    S: Dir + Drop + Send,
+{
+    let Some(writer) = sink_in(alloc, sinks, b"all") else {
+        return false;
+    };
+    let written = are_all_written(alloc, rt, dir, &writer);
+    written && count_of(alloc, writer) == 3
 }
 
 #[test]
 fn three_chunks_reach_the_sink(rt: HostRuntime) {
-    let alloc = rt.alloc();
-    assert!(rt; reach_the_sink(alloc, &rt, MemoryDir::new(alloc), MemoryDir::new(alloc)));
+    assert!(rt; in_memory(&rt, Part::Sink));
 }

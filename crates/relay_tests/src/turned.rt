@@ -1,6 +1,6 @@
 //! A relay that is turned while a courier waits for its answer, in one thread.
 
-ghost use Rattle.std.specs.Prelude.{◌≡◌, [], IfOk};
+ghost use Rattle.std.specs.Prelude.{◌≡◌, [], IfSome};
 
 use ack_receipt::Stub;
 use disk_files::Dir;
@@ -14,38 +14,41 @@ use std::net::Net;
 use std::random::RandomSource;
 use std::sync::atomic::AtomicBool;
 use std::sync::{Arc, Mutex, Wait};
-use std::test::Fail;
 use std::time::{Clock, Duration};
 
-// A relay with sockets of the system.
-pub type Opened<R, D> = OpenRelay<SocketNetwork<R, Global>, D, Global>;
+// A handle of one's own.
+pub fn copy_of<R: Clone>(rt: &R) -> Option<R> {
+    match rt.clone() {
+        Ok(theirs) => Some(theirs),
+        Err(_) => None,
+    }
+}
 
 // The system's sockets, none of which listens yet.
-fn sockets<R>(rt: &R) -> Result<SocketNetwork<R, Global>, Fail>
+fn sockets<R>(rt: &R) -> Option<SocketNetwork<R, Global>>
 where
     R: Net + Clock + AllocGlobal + Clone + Drop,
-    ensures { IfOk result (λ network. ⟦<SocketNetwork<R, Global> as Network>⟧.bound network ≡ []) }
+    ensures { IfSome result (λ network. ⟦<SocketNetwork<R, Global> as Network>⟧.bound network ≡ []) }
 {
-    match SocketNetwork::new(copy_of(rt)?, rt.alloc()) {
-        Ok(network) => Ok(network),
-        Err(_) => Err(Fail::from("no sockets")),
+    let Some(own) = copy_of(rt) else {
+        return None;
+    };
+    match SocketNetwork::new(own, rt.alloc()) {
+        Ok(network) => Some(network),
+        Err(_) => None,
     }
 }
 
 // The relay of this setup, which listens over this network.
-fn listening<R, N>(
-    rt: &R,
-    network: N,
-    setup: RelaySetup<Global>,
-) -> Result<BoundRelay<N, Global>, Fail>
+fn listening<R, N>(rt: &R, network: N, setup: RelaySetup<Global>) -> Option<BoundRelay<N, Global>>
 where
     R: RandomSource + AllocGlobal,
     N: Network + Drop,
     requires { N.bound network ≡ [] }
 {
     match BoundRelay::bind(rt, rt.alloc(), network, setup) {
-        Ok(bound) => Ok(bound),
-        Err(_) => Err(Fail::from("a source isn't bound")),
+        Ok(bound) => Some(bound),
+        Err(_) => None,
     }
 }
 
@@ -54,7 +57,7 @@ where
 fn with_buffers<N, D, F>(
     bound: BoundRelay<N, Global>,
     folders: &F,
-) -> Result<OpenRelay<N, D, Global>, Fail>
+) -> Option<OpenRelay<N, D, Global>>
 where
     N: Network + Drop,
     D: Dir + Drop,
@@ -63,30 +66,60 @@ where
     match bound.open(folders) {
         Ok(mut opened) => {
             opened.turning.keep_stubs();
-            Ok(opened)
+            Some(opened)
         }
-        Err(_) => Err(Fail::from("a buffer doesn't open")),
+        Err(_) => None,
     }
 }
 
-// The relay with buffers in these folders, whose loop keeps what is left of its deliveries.
-pub fn open_relay<R, D, F>(rt: &R, relay: Relay<Global>, folders: &F) -> Result<Opened<R, D>, Fail>
+// The same of this relay.
+fn opened<R, N, D, F>(
+    rt: &R,
+    network: N,
+    relay: Relay<Global>,
+    folders: &F,
+) -> Option<OpenRelay<N, D, Global>>
+where
+    R: RandomSource + AllocGlobal,
+    N: Network + Drop,
+    D: Dir + Drop,
+    F: Folders<D, Global>,
+    requires { N.bound network ≡ [] }
+{
+    let Ok(setup) = RelaySetup::new(rt.alloc(), relay, 1) else {
+        return None;
+    };
+    match listening(rt, network, setup) {
+        Some(bound) => with_buffers(bound, folders),
+        None => None,
+    }
+}
+
+// What opens relays, over sockets of some kind. Over those of the system all that is said of them
+// would be in view at each call.
+pub trait Opens<N: Network + Drop, D: Dir + Drop> {
+    // The relay with its buffers, whose loop keeps what is left of its deliveries.
+    fn open(&self, relay: Relay<Global>) -> Option<OpenRelay<N, D, Global>>;
+}
+
+// What opens relays over sockets of the system, with buffers in these folders.
+#[derive(Clone, Copy)]
+pub struct Opener<'a, R, F> {
+    pub rt: &'a R,
+    pub folders: &'a F,
+}
+
+impl<'a, R, D, F> Opens<SocketNetwork<R, Global>, D> for Opener<'a, R, F>
 where
     R: Net + Clock + RandomSource + AllocGlobal + Clone + Drop,
     D: Dir + Drop,
     F: Folders<D, Global>,
 {
-    let Ok(setup) = RelaySetup::new(rt.alloc(), relay, 1) else {
-        return Err(Fail::from("the relay can't run"));
-    };
-    with_buffers(listening(rt, sockets(rt)?, setup)?, folders)
-}
-
-// A handle of one's own.
-pub fn copy_of<R: Clone>(rt: &R) -> Result<R, Fail> {
-    match rt.clone() {
-        Ok(theirs) => Ok(theirs),
-        Err(_) => Err(Fail::from("no memory")),
+    fn open(&self, relay: Relay<Global>) -> Option<OpenRelay<SocketNetwork<R, Global>, D, Global>> {
+        match sockets(self.rt) {
+            Some(network) => opened(self.rt, network, relay, self.folders),
+            None => None,
+        }
     }
 }
 
@@ -179,17 +212,29 @@ fn is_accounted<D: Dir + Drop>(
 }
 
 // Connects by another dialer. While a connection waits for bytes, the hub goes on.
-#[derive(Drop)]
 pub struct HubDialer<'a, H, C> {
     pub hub: &'a H,
     pub dialer: C,
 }
 
+// By hand, so that its parts aren't gone through where it ends.
+impl<'a, H, C: Drop> Drop for HubDialer<'a, H, C> {
+    fn drop(self) {
+        let HubDialer { hub: _, dialer: _ } = self;
+    }
+}
+
 // A connection of such a dialer.
-#[derive(Drop)]
 pub struct HubWire<'a, H, W> {
     hub: &'a H,
     wire: W,
+}
+
+// By hand, so that its parts aren't gone through where it ends.
+impl<'a, H, W: Drop> Drop for HubWire<'a, H, W> {
+    fn drop(self) {
+        let HubWire { hub: _, wire: _ } = self;
+    }
 }
 
 impl<'a, H, C: Time> Time for HubDialer<'a, H, C> {
