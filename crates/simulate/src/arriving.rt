@@ -1,288 +1,329 @@
 //! The bytes of a message reach a relay piece by piece, and what the relay makes of it is told.
 
-use crate::chunks::{Appended, Stage};
+use crate::chunks::{Appended, Chunks};
 use crate::judge::Judge;
-use crate::lent::Lendable;
 use crate::link::Link;
-use crate::run::Run;
-use crate::site::{OpenSite, Site};
-use event_modes::{Message, Read, read};
-use loop_core::Peer;
+use crate::machine::Machine;
+use crate::parts::{Parts, Server, Settings, Way};
+use crate::run::{Run, tell_oldest};
+use crate::site::{Refusal, Site};
+use relay_conf::BufferNo;
 use relay_ports::Branches;
 use std::alloc::{AllocError, Global};
 use std::sync::Wait;
 
-impl<'n, D: Lendable + Drop> Run<'n, D> {
+impl<P: Parts, M: Machine> Run<P, M> {
     /// Some bytes of a connection reach the relay.
     pub fn reach<R: Wait>(&mut self, rt: &R, at: usize) -> Result<(), AllocError> {
-        let len = count_outgoing(&self.links, self.sites.len(), at);
+        let Some(link) = self.links.get_mut(at) else {
+            return Ok(());
+        };
+        let Some(site) = self.sites.get_mut(link.to) else {
+            return Ok(());
+        };
+        let len = count_outgoing(link);
         if len == 0 {
             return Ok(());
         }
         let some = self.dice.below(len);
         let count = if self.dice.once_in(2) { len } else { some };
-        let (sites, links) = (&mut self.sites, &mut self.links);
-        if bring(rt, self.alloc, sites, links, at, count, &mut self.judge)? {
+        if bring(rt, self.alloc, site, link, count, &mut self.judge)? {
             self.begun.push(at)?;
         }
         Ok(())
     }
 }
 
-// How many bytes of a connection may reach one of so many relays.
-fn count_outgoing(links: &[Link], sites: usize, at: usize) -> usize {
-    match links.get(at) {
-        Some(link) if !link.is_over && link.to < sites => link.client.outgoing().len(),
-        _ => 0,
+// How many bytes of a connection may reach its relay.
+fn count_outgoing<E>(link: &Link<E>) -> usize {
+    if link.is_over {
+        return 0;
     }
+    link.client.outgoing().len()
 }
 
 // So many bytes of a connection reach the relay: whether the whole message is there then.
-fn bring<R: Wait, D: Lendable + Drop>(
+fn bring<R: Wait, P: Parts, M: Machine>(
     rt: &R,
     alloc: Global,
-    sites: &mut [Site<D>],
-    links: &mut [Link],
-    at: usize,
+    site: &mut Site<P>,
+    link: &mut Link<P::Server>,
     count: usize,
-    judge: &mut Judge<'_>,
+    judge: &mut Judge<M>,
 ) -> Result<bool, AllocError> {
-    let Some(link) = links.get_mut(at) else {
-        return Ok(false);
-    };
-    let Some(site) = sites.get_mut(link.to) else {
-        return Ok(false);
-    };
-    take_bytes(rt, alloc, site, link, count, judge)?;
+    if let Some(open) = &mut site.open {
+        take_in(rt, alloc, open, link, count, judge)?;
+    }
     if !link.client.outgoing().is_empty() {
         return Ok(false);
     }
-    note_delivery(rt, alloc, site, link, judge)?;
+    link.delivery = note_mail(rt, alloc, site, judge, mail_of(link))?;
     Ok(true)
 }
 
-// Some bytes reach the relay, if it is open; then it has to take them.
-fn take_bytes<R: Wait, D: Lendable + Drop>(
+// A message that is whole at its relay: its number, the source that it came in at, its bytes and
+// those of its entries, and whether a delivery of it waits.
+#[derive(Clone, Copy)]
+struct Mail<'a> {
+    message: u64,
+    source: usize,
+    bytes: &'a [u8],
+    entries: &'a [u8],
+    is_waiting: bool,
+}
+
+// The message of a connection.
+fn mail_of<E: Server>(link: &Link<E>) -> Mail<'_> {
+    Mail {
+        message: link.message,
+        source: link.source,
+        bytes: &link.bytes,
+        entries: &link.entries,
+        is_waiting: link.is_waiting(),
+    }
+}
+
+// So many bytes reach the relay, or all that are to be sent; it has to take them.
+fn take_in<R: Wait, P: Parts, M: Machine>(
     rt: &R,
     alloc: Global,
-    site: &mut Site<D>,
-    link: &mut Link,
+    open: &mut P,
+    link: &mut Link<P::Server>,
     count: usize,
-    judge: &mut Judge<'_>,
+    judge: &mut Judge<M>,
 ) -> Result<(), AllocError> {
-    let Some(open) = &mut site.open else {
-        return Ok(());
-    };
-    let piece = piece_of(alloc, link, count)?;
-    if take_in(rt, alloc, open, link, &piece)? {
+    if take_bytes(rt, alloc, open, link, count)? {
         return Ok(());
     }
     judge.fail_message(link.message, "isn't taken in")
 }
 
-// These bytes reach the relay; `false` where it can't take them.
-fn take_in<R: Wait, D: Lendable + Drop>(
+// The same; `false` where it doesn't take them.
+fn take_bytes<R: Wait, P: Parts>(
     rt: &R,
     alloc: Global,
-    open: &mut OpenSite<D>,
-    link: &mut Link,
-    piece: &[u8],
+    open: &mut P,
+    link: &mut Link<P::Server>,
+    count: usize,
 ) -> Result<bool, AllocError> {
-    let Some(mut peer) = take_peer(alloc, open, link)? else {
-        return Ok(false);
-    };
-    let taken = peer.receive(rt, alloc, piece, &mut open.lanes, &mut open.numbers);
-    if let Some(other) = link.peer.replace(peer) {
-        other.end(rt, &mut open.lanes);
-    }
-    if piece.len() <= link.client.outgoing().len() {
-        link.client.sent(piece.len());
-    }
-    Ok(taken.is_ok())
+    let piece = next_piece(alloc, link, count)?;
+    open.receive(rt, alloc, link.source, &mut link.server, &piece)
 }
 
-// So many of the bytes that are to be sent, or all.
-fn piece_of(alloc: Global, link: &Link, count: usize) -> Result<Vec<u8>, AllocError> {
+// So many of the bytes that are to be sent, or all, are sent.
+fn next_piece<E>(alloc: Global, link: &mut Link<E>, count: usize) -> Result<Vec<u8>, AllocError> {
     let outgoing = link.client.outgoing();
-    Vec::from_slice(alloc, outgoing.split_at(count.min(outgoing.len())).0)
+    let len = count.min(outgoing.len());
+    let piece = Vec::from_slice(alloc, outgoing.split_at(len).0)?;
+    link.client.sent(len);
+    Ok(piece)
 }
 
-// The relay's end of the connection, which opens where it isn't there; `None` where the relay has
-// no such source.
-fn take_peer<D: Lendable + Drop>(
-    alloc: Global,
-    open: &OpenSite<D>,
-    link: &mut Link,
-) -> Result<Option<Peer<Global>>, AllocError> {
-    if let Some(peer) = link.peer.take() {
-        return Ok(Some(peer));
-    }
-    match open.inlets.get(link.source) {
-        Some(inlet) => Ok(Some(Peer::open(alloc, inlet, None, [0; 16])?)),
-        None => Ok(None),
-    }
-}
-
-// The whole message is there: what the relay makes of it is told. Where a buffer has no room for
-// it, that is nothing. Where a device failed, each append of it may be there or not.
-fn note_delivery<R: Wait, D: Lendable + Drop>(
+// The whole message is there: what the relay makes of it is told. Where a device failed, each append
+// of it may be there or not. It says which delivery began, which is to wait for its answer then.
+fn note_mail<R: Wait, P: Parts, M: Machine>(
     rt: &R,
     alloc: Global,
-    site: &mut Site<D>,
-    link: &mut Link,
-    judge: &mut Judge<'_>,
-) -> Result<(), AllocError> {
-    match read(alloc, &link.bytes)? {
-        Read::Message(message, _) => note_message(rt, alloc, site, link, judge, &message),
-        _ => judge.fail_message(link.message, "isn't one"),
-    }
-}
-
-fn note_message<R: Wait, D: Lendable + Drop>(
-    rt: &R,
-    alloc: Global,
-    site: &mut Site<D>,
-    link: &mut Link,
-    judge: &mut Judge<'_>,
-    message: &Message<Global>,
-) -> Result<(), AllocError> {
-    match branches(alloc, site, link.source, message)? {
-        Some(branches) => note_branches(rt, alloc, site, link, judge, &branches),
-        None => judge.fail_message(link.message, "goes nowhere"),
-    }
-}
-
-// The same of a message that goes to these buffers.
-fn note_branches<R: Wait, D: Lendable + Drop>(
-    rt: &R,
-    alloc: Global,
-    site: &mut Site<D>,
-    link: &mut Link,
-    judge: &mut Judge<'_>,
-    branches: &Branches<Global>,
-) -> Result<(), AllocError> {
-    if has_room(site, branches, link.entries.len()) {
-        let delivery = note_begin(alloc, site, link, judge)?;
-        return note_appends(rt, alloc, site, judge, delivery, branches, &link.entries);
-    }
-    if link.is_waiting() {
-        return judge.fail_message(link.message, "is taken without room");
-    }
-    Ok(())
-}
-
-// A delivery of the message begins, which is then waiting for its answer.
-fn note_begin<D: Lendable + Drop>(
-    alloc: Global,
-    site: &mut Site<D>,
-    link: &mut Link,
-    judge: &mut Judge<'_>,
-) -> Result<u64, AllocError> {
-    judge.tell_number("begin", link.message)?;
-    let delivery = judge.next_delivery();
-    link.delivery = Some(delivery);
-    if !link.is_waiting() {
-        site.refuse(format!(in alloc; "message {} is refused", link.message)?);
-    }
-    Ok(delivery)
-}
-
-// The delivery was appended to each of its buffers.
-fn note_appends<R: Wait, D: Lendable + Drop>(
-    rt: &R,
-    alloc: Global,
-    site: &mut Site<D>,
-    judge: &mut Judge<'_>,
-    delivery: u64,
-    branches: &Branches<Global>,
-    entries: &[u8],
-) -> Result<(), AllocError> {
-    let tag = branches.tag.as_bytes();
-    for buffer in &branches.buffers {
-        note_drops(alloc, site, judge, buffer.0, entries.len())?;
-        note_append(rt, alloc, site, judge, delivery, buffer.0, tag, entries)?;
-    }
-    Ok(())
-}
-
-// Where the relay's matches send the message.
-fn branches<D: Lendable + Drop>(
-    alloc: Global,
-    site: &Site<D>,
-    source: usize,
-    message: &Message<Global>,
-) -> Result<Option<Branches<Global>>, AllocError> {
+    site: &mut Site<P>,
+    judge: &mut Judge<M>,
+    mail: Mail<'_>,
+) -> Result<Option<u64>, AllocError> {
     let Some(open) = &site.open else {
-        return Ok(None);
+        return fail_mail(judge, mail, "goes nowhere");
     };
-    match open.inlets.get(source) {
-        Some(inlet) => inlet.branches(alloc, message),
-        None => Ok(None),
+    let began = note_way(rt, alloc, open, site.number, &mut site.chunks, judge, mail)?;
+    if began.is_some() && !mail.is_waiting {
+        site.refuse(Refusal::Message(mail.message));
+    }
+    Ok(began)
+}
+
+// The same of the relay with this number and these parts, of whose chunks this was told.
+fn note_way<R: Wait, P: Parts, M: Machine>(
+    rt: &R,
+    alloc: Global,
+    open: &P,
+    number: u32,
+    chunks: &mut Chunks,
+    judge: &mut Judge<M>,
+    mail: Mail<'_>,
+) -> Result<Option<u64>, AllocError> {
+    match open.way(alloc, mail.source, mail.bytes)? {
+        Way::Buffers(branches) => {
+            note_branches(rt, alloc, open, number, chunks, judge, mail, &branches)
+        }
+        Way::Nowhere => fail_mail(judge, mail, "goes nowhere"),
+        Way::NoMessage => fail_mail(judge, mail, "isn't one"),
     }
 }
 
-// Whether each of the message's buffers takes so many bytes.
-fn has_room<D: Lendable + Drop>(site: &Site<D>, branches: &Branches<Global>, len: usize) -> bool {
-    for buffer in &branches.buffers {
-        if !site.has_room(buffer.0, len) {
+// This is wrong of a message, of which no delivery began.
+fn fail_mail<M: Machine>(
+    judge: &mut Judge<M>,
+    mail: Mail<'_>,
+    what: &str,
+) -> Result<Option<u64>, AllocError> {
+    judge.fail_message(mail.message, what)?;
+    Ok(None)
+}
+
+// The same of a message that goes to these buffers. Where one has no room for it, nothing is made
+// of it.
+fn note_branches<R: Wait, P: Parts, M: Machine>(
+    rt: &R,
+    alloc: Global,
+    open: &P,
+    number: u32,
+    chunks: &mut Chunks,
+    judge: &mut Judge<M>,
+    mail: Mail<'_>,
+    branches: &Branches<Global>,
+) -> Result<Option<u64>, AllocError> {
+    if have_room(open, chunks, &branches.buffers, mail.entries.len()) {
+        let delivery = judge.begin(mail.message)?;
+        let tag = branches.tag.as_bytes();
+        let one = Delivery {
+            number: delivery,
+            tag,
+            entries: mail.entries,
+        };
+        note_appends(
+            rt,
+            alloc,
+            open,
+            number,
+            chunks,
+            judge,
+            &branches.buffers,
+            one,
+        )?;
+        return Ok(Some(delivery));
+    }
+    if mail.is_waiting {
+        return fail_mail(judge, mail, "is taken without room");
+    }
+    Ok(None)
+}
+
+// A delivery: its number, and what it has its buffers append.
+#[derive(Clone, Copy)]
+struct Delivery<'a> {
+    number: u64,
+    tag: &'a [u8],
+    entries: &'a [u8],
+}
+
+// The delivery was appended to each of these buffers.
+fn note_appends<R: Wait, P: Parts, M: Machine>(
+    rt: &R,
+    alloc: Global,
+    open: &P,
+    number: u32,
+    chunks: &mut Chunks,
+    judge: &mut Judge<M>,
+    buffers: &[BufferNo],
+    one: Delivery<'_>,
+) -> Result<(), AllocError> {
+    for buffer in buffers {
+        let settings = open.settings(buffer.0);
+        note_drops(settings, number, chunks, judge, buffer.0, one.entries.len())?;
+        note_append(rt, alloc, open, chunks, judge, buffer.0, one)?;
+    }
+    Ok(())
+}
+
+// Whether each of these buffers takes so many bytes more, by what was told of the relay's chunks.
+fn have_room<P: Parts>(open: &P, chunks: &Chunks, buffers: &[BufferNo], len: usize) -> bool {
+    for buffer in buffers {
+        if !has_room(open.settings(buffer.0), chunks, buffer.0, len) {
             return false;
         }
     }
     true
 }
 
+// Whether a buffer does. Where it drops the oldest, all that are queued may go for them.
+fn has_room(settings: Option<Settings>, chunks: &Chunks, buffer: usize, len: usize) -> bool {
+    match settings {
+        Some(settings) => {
+            let size = chunks.size(buffer, !settings.drops_oldest);
+            fits(settings, size, len)
+        }
+        None => true,
+    }
+}
+
+// Whether a buffer takes these two together.
+fn fits(settings: Settings, size: usize, len: usize) -> bool {
+    size.saturating_add(len) as u64 <= settings.limit
+}
+
 // The oldest chunks went from this buffer so that it takes so many bytes.
-fn note_drops<D: Lendable + Drop>(
-    alloc: Global,
-    site: &mut Site<D>,
-    judge: &mut Judge<'_>,
+fn note_drops<M: Machine>(
+    settings: Option<Settings>,
+    number: u32,
+    chunks: &mut Chunks,
+    judge: &mut Judge<M>,
     buffer: usize,
     len: usize,
 ) -> Result<(), AllocError> {
-    for _ in 0..site.chunks.count_live(buffer) {
-        let Some(serial) = site.to_drop(buffer, len) else {
-            return Ok(());
-        };
-        let line = judge.tell(format!(in alloc; "oldest {} {buffer}", site.number)?)?;
-        site.chunks.restage(buffer, serial, Stage::Gone, line);
+    for _ in 0..chunks.count_live(buffer) {
+        if let Some(serial) = to_drop(settings, chunks, buffer, len) {
+            tell_oldest(number, chunks, judge, buffer, serial)?;
+        }
     }
     Ok(())
 }
 
-// The delivery was appended to this buffer: to its next chunk where that is there now, and else to
-// the one that grows.
-fn note_append<R: Wait, D: Lendable + Drop>(
-    rt: &R,
-    alloc: Global,
-    site: &mut Site<D>,
-    judge: &mut Judge<'_>,
-    delivery: u64,
-    buffer: usize,
-    tag: &[u8],
-    entries: &[u8],
-) -> Result<(), AllocError> {
-    let serial = growing_chunk(rt, site, buffer, tag);
-    let line = judge.tell(format!(in alloc; "append {delivery} {buffer} {serial}")?)?;
-    let bytes = Vec::from_slice(alloc, entries)?;
-    let append = Appended {
-        delivery,
-        line,
-        bytes,
-        is_synced: false,
-    };
-    site.chunks.append(alloc, buffer, serial, tag, append)
+// The chunk that goes from a buffer first so that it takes so many bytes more, where one does.
+fn to_drop(settings: Option<Settings>, chunks: &Chunks, buffer: usize, len: usize) -> Option<u64> {
+    match settings {
+        Some(settings)
+            if settings.drops_oldest && !fits(settings, chunks.size(buffer, true), len) => {
+            chunks.oldest_queued(buffer)
+        }
+        _ => None,
+    }
 }
 
-// The chunk of this tag to which a buffer appended.
-fn growing_chunk<R: Wait, D: Lendable + Drop>(
+// The delivery was appended to this buffer.
+fn note_append<R: Wait, P: Parts, M: Machine>(
     rt: &R,
-    site: &Site<D>,
+    alloc: Global,
+    open: &P,
+    chunks: &mut Chunks,
+    judge: &mut Judge<M>,
+    buffer: usize,
+    one: Delivery<'_>,
+) -> Result<(), AllocError> {
+    let serial = growing_chunk(rt, open, chunks, buffer, one.tag);
+    let line = judge.tell_numbers("append", &[one.number, buffer as u64, serial])?;
+    let append = appended(alloc, one, line)?;
+    chunks.append(alloc, buffer, serial, one.tag, append)
+}
+
+// An append of a delivery, which is told in this line, and isn't synced.
+fn appended(alloc: Global, one: Delivery<'_>, line: usize) -> Result<Appended, AllocError> {
+    Ok(Appended {
+        delivery: one.number,
+        line,
+        bytes: Vec::from_slice(alloc, one.entries)?,
+        is_synced: false,
+    })
+}
+
+// The chunk of this tag to which a buffer appended: its next chunk where that is there now, and
+// else the one that grows.
+fn growing_chunk<R: Wait, P: Parts>(
+    rt: &R,
+    open: &P,
+    chunks: &Chunks,
     buffer: usize,
     tag: &[u8],
 ) -> u64 {
-    let next = site.chunks.next_of(buffer);
-    if site.is_live(rt, buffer, next) {
+    let next = chunks.next_of(buffer);
+    if open.is_live(rt, buffer, next) {
         return next;
     }
-    site.chunks.staged(buffer, tag).unwrap_or(next)
+    chunks.staged(buffer, tag).unwrap_or(next)
 }

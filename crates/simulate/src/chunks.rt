@@ -6,7 +6,7 @@ use std::alloc::{AllocError, Global};
 pub const BUFFERS: usize = 16;
 
 /// How far a chunk is.
-#[derive(Clone, Copy, PartialEq, Eq)]
+#[derive(Clone, Copy)]
 pub enum Stage {
     Staged,
     Queued,
@@ -15,7 +15,6 @@ pub enum Stage {
 }
 
 /// An append: its delivery, where its step is told, its entries, and whether a stop can't lose it.
-#[derive(Drop)]
 pub struct Appended {
     pub delivery: u64,
     pub line: usize,
@@ -23,9 +22,19 @@ pub struct Appended {
     pub is_synced: bool,
 }
 
+impl Drop for Appended {
+    fn drop(self) {
+        let Appended {
+            delivery: _,
+            line: _,
+            bytes: _,
+            is_synced: _,
+        } = self;
+    }
+}
+
 /// A chunk of a buffer, with the lines of the step that queued it and of that by which it went, and
 /// whether a stop can't undo what was told of it.
-#[derive(Drop)]
 pub struct Chunk {
     pub buffer: usize,
     pub serial: u64,
@@ -37,6 +46,21 @@ pub struct Chunk {
     pub is_synced: bool,
 }
 
+impl Drop for Chunk {
+    fn drop(self) {
+        let Chunk {
+            buffer: _,
+            serial: _,
+            tag: _,
+            appends: _,
+            stage: _,
+            queued: _,
+            went: _,
+            is_synced: _,
+        } = self;
+    }
+}
+
 /// How what was found of a chunk differs from what was told.
 #[derive(Clone, Copy)]
 pub enum Found {
@@ -46,13 +70,21 @@ pub enum Found {
 }
 
 impl Chunk {
-    // A staged chunk without entries.
-    fn new(alloc: Global, buffer: usize, serial: u64, tag: &[u8]) -> Result<Chunk, AllocError> {
+    // A staged chunk with this append alone.
+    fn new(
+        alloc: Global,
+        buffer: usize,
+        serial: u64,
+        tag: &[u8],
+        append: Appended,
+    ) -> Result<Chunk, AllocError> {
+        let mut appends = Vec::new(alloc);
+        appends.push(append)?;
         Ok(Chunk {
             buffer,
             serial,
             tag: Vec::from_slice(alloc, tag)?,
-            appends: Vec::new(alloc),
+            appends,
             stage: Stage::Staged,
             queued: None,
             went: 0,
@@ -96,24 +128,28 @@ impl Chunk {
         }
     }
 
-    // Whether a stop loses none of its appends.
-    fn is_stored(&self) -> bool {
+    // Whether it has an append that is synced, or one that isn't.
+    fn has(&self, is_synced: bool) -> bool {
         for append in &self.appends {
-            if !append.is_synced {
-                return false;
+            if append.is_synced == is_synced {
+                return true;
             }
         }
-        true
+        false
+    }
+
+    // Whether it is staged, or else has an append that isn't synced.
+    fn is_due(&self, staged: bool) -> bool {
+        if staged {
+            matches!(self.stage, Stage::Staged)
+        } else {
+            self.has(false)
+        }
     }
 
     /// Whether a stop may lose the whole chunk.
     pub fn may_be_lost(&self) -> bool {
-        for append in &self.appends {
-            if append.is_synced {
-                return false;
-            }
-        }
-        true
+        !self.has(true)
     }
 }
 
@@ -143,7 +179,7 @@ impl Chunks {
         let mut last = None;
         for chunk in &self.all {
             if chunk.buffer == buffer
-                && chunk.stage == Stage::Staged
+                && matches!(chunk.stage, Stage::Staged)
                 && chunk.tag.as_slice() == tag
             {
                 last = Some(chunk.serial);
@@ -171,18 +207,18 @@ impl Chunks {
         tag: &[u8],
         append: Appended,
     ) -> Result<(), AllocError> {
-        if let Some(chunk) = self.find(buffer, serial) {
-            chunk.appends.push(append)?;
-            return Ok(());
+        match self.find(buffer, serial) {
+            Some(chunk) => Ok(chunk.appends.push(append)?),
+            None => self.begin(Chunk::new(alloc, buffer, serial, tag, append)?),
         }
-        self.all.reserve(1)?;
-        let mut chunk = Chunk::new(alloc, buffer, serial, tag)?;
-        chunk.appends.push(append)?;
-        self.all.push_reserved(chunk);
-        if let Some(next) = self.next.get_mut(buffer) {
-            *next = serial.saturating_add(1);
+    }
+
+    // This is the last chunk of its buffer.
+    fn begin(&mut self, chunk: Chunk) -> Result<(), AllocError> {
+        if let Some(next) = self.next.get_mut(chunk.buffer) {
+            *next = chunk.serial.saturating_add(1);
         }
-        Ok(())
+        Ok(self.all.push(chunk)?)
     }
 
     /// The chunk comes to this stage.
@@ -210,57 +246,41 @@ impl Chunks {
         }
     }
 
-    /// Each buffer is synced that has an append that wasn't.
-    pub fn sync_appended(&mut self) {
+    /// Each buffer is synced that has a staged chunk, or else each that has an append that wasn't.
+    pub fn sync_buffers(&mut self, staged: bool) {
         for buffer in 0..BUFFERS {
-            if self.has_unsynced(buffer) {
+            if self.is_due(buffer, staged) {
                 self.sync_buffer(buffer);
             }
         }
     }
 
-    /// Each buffer is synced that has a staged chunk.
-    pub fn sync_staged(&mut self) {
-        for buffer in 0..BUFFERS {
-            if self.has_in(buffer, Stage::Staged) {
-                self.sync_buffer(buffer);
-            }
-        }
-    }
-
-    /// Whether a buffer has a chunk in this stage.
-    pub fn has_in(&self, buffer: usize, stage: Stage) -> bool {
+    fn is_due(&self, buffer: usize, staged: bool) -> bool {
         for chunk in &self.all {
-            if chunk.buffer == buffer && chunk.stage == stage {
+            if chunk.buffer == buffer && chunk.is_due(staged) {
                 return true;
             }
         }
         false
     }
 
-    /// How many bytes of entries the chunks of a buffer have in this stage.
-    pub fn size_in(&self, buffer: usize, stage: Stage) -> usize {
+    /// How many bytes of entries the chunks of a buffer have that didn't go, with those of queued
+    /// ones or without.
+    pub fn size(&self, buffer: usize, with_queued: bool) -> usize {
         let mut size = 0usize;
         for chunk in &self.all {
-            if chunk.buffer == buffer && chunk.stage == stage {
+            if chunk.buffer == buffer && stays(chunk.stage, with_queued) {
                 size = size.saturating_add(chunk.size());
             }
         }
         size
     }
 
-    /// How many bytes of entries the chunks of a buffer have that didn't go.
-    pub fn size(&self, buffer: usize) -> usize {
-        self.size_in(buffer, Stage::Staged)
-            .saturating_add(self.size_in(buffer, Stage::Queued))
-            .saturating_add(self.size_in(buffer, Stage::Claimed))
-    }
-
     /// The queued chunk of a buffer with the least serial.
     pub fn oldest_queued(&self, buffer: usize) -> Option<u64> {
         let mut least = None;
         for chunk in &self.all {
-            if chunk.buffer == buffer && chunk.stage == Stage::Queued {
+            if chunk.buffer == buffer && matches!(chunk.stage, Stage::Queued) {
                 least = Some(lesser(least, chunk.serial));
             }
         }
@@ -271,20 +291,11 @@ impl Chunks {
     pub fn count_live(&self, buffer: usize) -> usize {
         let mut count = 0usize;
         for chunk in &self.all {
-            if chunk.buffer == buffer && chunk.stage != Stage::Gone {
+            if chunk.buffer == buffer && !matches!(chunk.stage, Stage::Gone) {
                 count = count.saturating_add(1);
             }
         }
         count
-    }
-
-    fn has_unsynced(&self, buffer: usize) -> bool {
-        for chunk in &self.all {
-            if chunk.buffer == buffer && !chunk.is_stored() {
-                return true;
-            }
-        }
-        false
     }
 
     fn sync_buffer(&mut self, buffer: usize) {
@@ -304,6 +315,15 @@ impl Chunks {
                 }
             }
         }
+    }
+}
+
+// Whether a chunk in this stage stays in its buffer, where queued ones do or don't.
+fn stays(stage: Stage, with_queued: bool) -> bool {
+    match stage {
+        Stage::Staged | Stage::Claimed => true,
+        Stage::Queued => with_queued,
+        Stage::Gone => false,
     }
 }
 

@@ -4,7 +4,7 @@ use disk_files::{Dir, Fuse, Keep, MemoryDir};
 use std::alloc::Global;
 
 /// Which calls to a folder its device fails.
-#[derive(Clone, Copy, PartialEq, Eq)]
+#[derive(Clone, Copy)]
 pub enum Device {
     /// None.
     Sound,
@@ -32,7 +32,7 @@ impl Devices {
 
     /// Whether one may fail.
     pub fn may_fail(&self) -> bool {
-        self.buffers != Device::Sound || self.sinks != Device::Sound
+        !matches!(self.buffers, Device::Sound) || !matches!(self.sinks, Device::Sound)
     }
 }
 

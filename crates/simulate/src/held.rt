@@ -1,134 +1,167 @@
-//! A chunk that a worker has claimed.
+//! The chunks that workers have claimed.
 
-ghost use Rattle.std.specs.Prelude.{◌≡◌};
-ghost use Rattle.std.specs.Arc.{arc_value};
-
-use crate::lent::Lendable;
-use ack_receipt::{Claim, Evidence, SharedBuffer};
-use event_modes::Entries;
-use flush_pool::{ClaimView, Courier, SinkCourier};
+use crate::parts::{Hold, Parts};
+use ack_receipt::Evidence;
 use std::alloc::Global;
-use std::sync::{Arc, Wait};
-use std::time::Clock;
+use std::sync::Wait;
 
 /// The name of a chunk in a step: the place of its relay, the number of its buffer, and its serial.
-#[derive(Clone, Copy, PartialEq, Eq)]
+#[derive(Clone, Copy)]
 pub struct Name {
     pub site: usize,
     pub buffer: usize,
     pub serial: u64,
 }
 
-/// A chunk that a worker has claimed, and the buffer that it is of.
-pub struct Held<D: Lendable + Drop> {
-    site: usize,
-    buffer: usize,
-    shared: Arc<SharedBuffer<D, Global>>,
-    claim: Claim<Global>,
-    ghost same: { claim.leaf ≡ (arc_value shared).leaf },
+impl Name {
+    /// Whether it is that one.
+    pub fn is(self, other: Name) -> bool {
+        self.site == other.site && self.buffer == other.buffer && self.serial == other.serial
+    }
 }
 
-impl<D: Lendable + Drop> Held<D> {
-    /// Claims the first chunk that is queued in this buffer of the relay at this place; nothing
-    /// where there is none, or no memory.
-    pub fn claim<R: Wait>(
-        rt: &R,
-        site: usize,
-        buffer: usize,
-        shared: &Arc<SharedBuffer<D, Global>>,
-    ) -> Option<Held<D>> {
-        let shared = Arc::try_clone(shared).ok()?;
-        match shared.claim(rt) {
-            Ok(Some(claim)) => Some(Held {
-                site,
-                buffer,
-                shared,
-                claim,
-            }),
-            _ => None,
-        }
-    }
+/// A chunk that a worker has claimed, and its name.
+pub struct Held<H> {
+    pub name: Name,
+    pub hold: H,
+}
 
-    /// The chunk's name.
-    pub fn name(&self) -> Name {
-        Name {
-            site: self.site,
-            buffer: self.buffer,
-            serial: self.claim.serial(),
-        }
+impl<H: Hold> Held<H> {
+    // Gives it back.
+    fn give_back<R: Wait>(self, rt: &R) {
+        let Held { name: _, hold } = self;
+        hold.give_back(rt);
     }
+}
 
-    /// The place of its relay.
-    pub fn site(&self) -> usize {
-        self.site
+/// Claims the first chunk that is queued in this buffer of the relay at this place; nothing where
+/// there is none, or no memory.
+pub fn claim<R: Wait, P: Parts>(
+    rt: &R,
+    parts: &P,
+    site: usize,
+    buffer: usize,
+) -> Option<Held<P::Hold>> {
+    match parts.claim(rt, buffer) {
+        Some(hold) => Some(named(site, buffer, hold)),
+        None => None,
     }
+}
 
-    /// The claim.
-    pub fn as_claim(&self) -> &Claim<Global> {
-        &self.claim
-    }
-
-    /// The chunk's entries, if they can be read.
-    pub fn body<R: Wait>(&self, rt: &R) -> Option<Entries<Global>> {
-        self.shared.body(rt, &self.claim).ok()
-    }
-
-    /// The evidence of a sink's courier, if it carries the chunk.
-    pub fn carried<R: Wait + Clock>(
-        &self,
-        rt: &R,
-        sink: &SinkCourier<D, Global>,
-    ) -> Option<Evidence<Global>> {
-        sink.carry(rt, &ClaimView::new(&self.shared, &self.claim))
-            .ok()
-    }
-
-    /// Gives it back.
-    pub fn give_back<R: Wait>(self, rt: &R) {
-        let Held {
-            site: _,
-            buffer: _,
-            shared,
-            claim,
-        } = self;
-        shared.give_back(rt, claim);
-    }
-
-    /// Lets the chunk go on this evidence; where the buffer refuses, both come back.
-    pub fn offer<R: Wait>(
-        self,
-        rt: &R,
-        evidence: Evidence<Global>,
-    ) -> Result<(), (Held<D>, Evidence<Global>)> {
-        let Held {
+// A claimed chunk with its name.
+fn named<H: Hold>(site: usize, buffer: usize, hold: H) -> Held<H> {
+    let serial = hold.claim().serial();
+    Held {
+        name: Name {
             site,
             buffer,
-            shared,
-            claim,
-        } = self;
-        match shared.purge(rt, claim, evidence) {
-            Ok(()) => Ok(()),
-            Err((_, claim, evidence)) => {
-                let held = Held {
-                    site,
-                    buffer,
-                    shared,
-                    claim,
-                };
-                Err((held, evidence))
-            }
+            serial,
+        },
+        hold,
+    }
+}
+
+// The place of the claim of this chunk.
+fn place_of<H>(all: &[Held<H>], name: Name) -> Option<usize> {
+    for (at, held) in all.iter().enumerate() {
+        if held.name.is(name) {
+            return Some(at);
         }
     }
+    None
+}
 
-    /// The same; `false` where the buffer refuses: then it is given back.
-    pub fn purge<R: Wait>(self, rt: &R, evidence: Evidence<Global>) -> bool {
-        match self.offer(rt, evidence) {
-            Ok(()) => true,
-            Err((held, evidence)) => {
-                evidence.waste();
-                held.give_back(rt);
-                false
-            }
+/// The claim of this chunk.
+pub fn held_of<H>(all: &[Held<H>], name: Name) -> Option<&H> {
+    match all.get(place_of(all, name)?) {
+        Some(held) => Some(&held.hold),
+        None => None,
+    }
+}
+
+/// The chunk of the claim at this place.
+pub fn name_at<H>(all: &[Held<H>], at: usize) -> Option<Name> {
+    match all.get(at) {
+        Some(held) => Some(held.name),
+        None => None,
+    }
+}
+
+/// A chunk that the workers of the relay at this place have claimed.
+pub fn first_of<H>(all: &[Held<H>], site: usize) -> Option<Name> {
+    for held in all {
+        if held.name.site == site {
+            return Some(held.name);
+        }
+    }
+    None
+}
+
+/// Takes the claim of this chunk.
+pub fn take_held<H>(all: &mut Vec<Held<H>>, name: Name) -> Option<H> {
+    let at = place_of(all, name)?;
+    if at >= all.len() {
+        return None;
+    }
+    let Held { name: _, hold } = all.swap_remove(at);
+    Some(hold)
+}
+
+/// Keeps this claim; where there is no memory for it, it is given back.
+pub fn keep<R: Wait, H: Hold>(rt: &R, all: &mut Vec<Held<H>>, held: Held<H>) {
+    if let Err(failed) = all.push(held) {
+        failed.value.give_back(rt);
+    }
+}
+
+/// Gives a claim back, if it is there.
+pub fn give_back<R: Wait, H: Hold>(rt: &R, all: &mut Vec<Held<H>>, name: Name) -> bool {
+    match take_held(all, name) {
+        Some(hold) => {
+            hold.give_back(rt);
+            true
+        }
+        None => false,
+    }
+}
+
+/// Gives these claims back.
+pub fn give_all_back<R: Wait, H: Hold>(rt: &R, all: Vec<Held<H>>) {
+    let mut rest = all.into_iter();
+    while let Some(held) = rest.next() {
+        held.give_back(rt);
+    }
+    rest.destroy_empty();
+}
+
+/// Lets the chunk of this claim go on this evidence; `false` where its buffer refuses: then it is
+/// given back.
+pub fn purge<R: Wait, H: Hold>(rt: &R, hold: H, evidence: Evidence<Global>) -> bool {
+    match hold.offer(rt, evidence) {
+        Ok(()) => true,
+        Err((hold, evidence)) => {
+            evidence.waste();
+            hold.give_back(rt);
+            false
+        }
+    }
+}
+
+/// Offers a claimed chunk an evidence that it may not go on; `None` where it does.
+pub fn misuse<R: Wait, H: Hold>(
+    rt: &R,
+    all: &mut Vec<Held<H>>,
+    name: Name,
+    evidence: Evidence<Global>,
+) -> Option<Evidence<Global>> {
+    let Some(hold) = take_held(all, name) else {
+        return Some(evidence);
+    };
+    match hold.offer(rt, evidence) {
+        Ok(()) => None,
+        Err((hold, evidence)) => {
+            keep(rt, all, Held { name, hold });
+            Some(evidence)
         }
     }
 }

@@ -1,30 +1,39 @@
-//! The proved machine as the judge of a run.
+//! The machine as the judge of a run.
 
-use custody_steps::World;
-use relay_net::Net;
+use crate::machine::Machine;
 use std::alloc::{AllocError, Global};
-use step_lines::Step;
+use std::fmt::Write;
 
 /// The steps that the run was told as, in the form that a replay takes, and the network as the
 /// machine has it behind them.
-#[derive(Drop)]
-pub struct Judge<'n> {
+pub struct Judge<M: Machine> {
     alloc: Global,
-    net: &'n Net<Global>,
-    pub world: World<'n, Global>,
+    pub machine: M,
     pub lines: Vec<String>,
     messages: u64,
     deliveries: u64,
     wrong: Option<String>,
 }
 
-impl<'n> Judge<'n> {
+impl<M: Machine> Drop for Judge<M> {
+    fn drop(self) {
+        let Judge {
+            alloc: _,
+            machine: _,
+            lines: _,
+            messages: _,
+            deliveries: _,
+            wrong: _,
+        } = self;
+    }
+}
+
+impl<M: Machine> Judge<M> {
     /// Nothing was told yet.
-    pub fn new(alloc: Global, net: &'n Net<Global>) -> Judge<'n> {
+    pub fn new(alloc: Global, machine: M) -> Judge<M> {
         Judge {
             alloc,
-            net,
-            world: World::new(alloc, net),
+            machine,
             lines: Vec::new(alloc),
             messages: 0,
             deliveries: 0,
@@ -39,11 +48,12 @@ impl<'n> Judge<'n> {
         number
     }
 
-    /// The number of a delivery that was opened now.
-    pub fn next_delivery(&mut self) -> u64 {
+    /// Takes the step by which a delivery of a message begins, and says the delivery's number.
+    pub fn begin(&mut self, message: u64) -> Result<u64, AllocError> {
+        self.tell_numbers("begin", &[message])?;
         let number = self.deliveries;
         self.deliveries = number.saturating_add(1);
-        number
+        Ok(number)
     }
 
     /// What was found to be wrong first, if anything.
@@ -63,26 +73,17 @@ impl<'n> Judge<'n> {
 
     /// This is wrong of a message.
     pub fn fail_message(&mut self, message: u64, what: &str) -> Result<(), AllocError> {
-        self.fail(format!(in self.alloc; "message {message} {what}")?);
-        Ok(())
-    }
-
-    /// This is wrong of an event that was acknowledged.
-    pub fn fail_event(&mut self, event: usize, what: &str) -> Result<(), AllocError> {
-        self.fail(format!(in self.alloc; "event {event} {what}")?);
-        Ok(())
+        self.fail_at("message", &[message], what)
     }
 
     /// This is wrong of a relay.
     pub fn fail_relay(&mut self, relay: u32, what: &str) -> Result<(), AllocError> {
-        self.fail(format!(in self.alloc; "relay {relay} {what}")?);
-        Ok(())
+        self.fail_at("relay", &[u64::from(relay)], what)
     }
 
     /// This is wrong of a relay's buffer.
     pub fn fail_buffer(&mut self, relay: u32, buffer: usize, what: &str) -> Result<(), AllocError> {
-        self.fail(format!(in self.alloc; "buffer {relay}/{buffer} {what}")?);
-        Ok(())
+        self.fail_at("buffer", &[u64::from(relay), buffer as u64], what)
     }
 
     /// This is wrong of a chunk.
@@ -93,13 +94,20 @@ impl<'n> Judge<'n> {
         serial: u64,
         what: &str,
     ) -> Result<(), AllocError> {
-        self.fail(format!(in self.alloc; "chunk {relay}/{buffer}/{serial} {what}")?);
+        self.fail_at("chunk", &[u64::from(relay), buffer as u64, serial], what)
+    }
+
+    /// This is wrong of what such numbers name.
+    pub fn fail_at(&mut self, word: &str, numbers: &[u64], what: &str) -> Result<(), AllocError> {
+        let mut text = line(self.alloc, word, "/", numbers)?;
+        write!(&mut text, " {what}")?;
+        self.fail(text);
         Ok(())
     }
 
-    /// Takes a step with a number, and says at which place it is told.
-    pub fn tell_number(&mut self, word: &str, number: u64) -> Result<usize, AllocError> {
-        self.tell(format!(in self.alloc; "{word} {number}")?)
+    /// Takes a step with such numbers, and says at which place it is told.
+    pub fn tell_numbers(&mut self, word: &str, numbers: &[u64]) -> Result<usize, AllocError> {
+        self.tell(line(self.alloc, word, " ", numbers)?)
     }
 
     /// Takes a step of a chunk, and says at which place it is told.
@@ -110,30 +118,36 @@ impl<'n> Judge<'n> {
         buffer: usize,
         serial: u64,
     ) -> Result<usize, AllocError> {
-        self.tell(format!(in self.alloc; "{word} {relay}/{buffer}/{serial}")?)
+        let numbers = [u64::from(relay), buffer as u64, serial];
+        self.tell(line(self.alloc, word, "/", &numbers)?)
+    }
+
+    /// Takes a step of a chunk with a number behind its name.
+    pub fn tell_chunk_with(
+        &mut self,
+        word: &str,
+        relay: u32,
+        buffer: usize,
+        serial: u64,
+        number: usize,
+    ) -> Result<usize, AllocError> {
+        let numbers = [u64::from(relay), buffer as u64, serial];
+        let mut text = line(self.alloc, word, "/", &numbers)?;
+        write!(&mut text, " {number}")?;
+        self.tell(text)
     }
 
     /// Takes a step, and says at which place it is told.
     pub fn tell(&mut self, line: String) -> Result<usize, AllocError> {
         let at = self.lines.len();
-        if self.wrong.is_none() {
-            self.take(line.as_str())?;
-        }
+        take(
+            self.alloc,
+            &mut self.machine,
+            &mut self.wrong,
+            line.as_str(),
+        )?;
         self.lines.push(line)?;
         Ok(at)
-    }
-
-    fn take(&mut self, line: &str) -> Result<(), AllocError> {
-        let Ok(steps) = Step::read_all(self.alloc, line.as_bytes()) else {
-            self.fail(format!(in self.alloc; "no step: {line}")?);
-            return Ok(());
-        };
-        for step in &steps {
-            if self.world.step(step).is_err() {
-                self.fail(format!(in self.alloc; "the step isn't allowed: {line}")?);
-            }
-        }
-        Ok(())
     }
 
     /// A stop lost what the step at this place did: it is taken out.
@@ -145,14 +159,42 @@ impl<'n> Judge<'n> {
 
     /// Takes all steps again, from the beginning, without those that were taken out.
     pub fn begin_again(&mut self) -> Result<(), AllocError> {
-        self.world = World::new(self.alloc, self.net);
-        let lines = std::mem::replace(&mut self.lines, Vec::new(self.alloc));
-        for line in &lines {
-            if self.wrong.is_none() {
-                self.take(line.as_str())?;
-            }
+        self.machine.begin_again(self.alloc);
+        for line in &self.lines {
+            take(
+                self.alloc,
+                &mut self.machine,
+                &mut self.wrong,
+                line.as_str(),
+            )?;
         }
-        self.lines = lines;
         Ok(())
     }
+}
+
+// The machine takes a step, where nothing is wrong so far.
+fn take<M: Machine>(
+    alloc: Global,
+    machine: &mut M,
+    wrong: &mut Option<String>,
+    line: &str,
+) -> Result<(), AllocError> {
+    if wrong.is_some() {
+        return Ok(());
+    }
+    if let Some(what) = machine.take(alloc, line) {
+        *wrong = Some(format!(in alloc; "{what}: {line}")?);
+    }
+    Ok(())
+}
+
+// A word and such numbers, with this between them.
+fn line(alloc: Global, word: &str, between: &str, numbers: &[u64]) -> Result<String, AllocError> {
+    let mut text = String::from_str(alloc, word)?;
+    let mut before = " ";
+    for number in numbers {
+        write!(&mut text, "{before}{number}")?;
+        before = between;
+    }
+    Ok(text)
 }

@@ -1,26 +1,16 @@
 //! A connection on which one message is sent.
 
-ghost use Rattle.std.specs.Prelude.{◌≡◌, length};
-
 use crate::held::Name;
-use disk_files::Dir;
+use crate::parts::{Parts, Server};
 use forward_core::{ClientSession, Heard};
-use loop_core::{Lanes, Peer};
 use std::alloc::{AllocError, Global};
 use std::sync::Wait;
 
-/// Whose message a connection carries.
-#[derive(Clone, Copy)]
-pub enum Sender {
-    Client,
-    /// A worker that has claimed this chunk.
-    Chunk(Name),
-}
-
-/// A connection: the session that sends, the relay that it goes to with its session, and what
-/// became of the message so far.
-pub struct Link {
-    pub sender: Sender,
+/// A connection: the session that sends, the relay that it goes to with its end, and what became of
+/// the message so far.
+pub struct Link<E> {
+    /// The chunk that a worker has claimed and sends; none where a client sends.
+    pub chunk: Option<Name>,
     pub message: u64,
     pub to: usize,
     pub source: usize,
@@ -30,7 +20,7 @@ pub struct Link {
     pub entries: Vec<u8>,
     pub asks: bool,
     pub client: ClientSession<Global>,
-    pub peer: Option<Peer<Global>>,
+    pub server: Option<E>,
     /// The delivery that was opened of it.
     pub delivery: Option<u64>,
     pub is_answered: bool,
@@ -40,35 +30,25 @@ pub struct Link {
     pub is_deaf: bool,
 }
 
-impl Link {
+impl<E> Link<E> {
     /// Whether a worker of this relay sends on it.
     pub fn is_of(&self, site: usize) -> bool {
-        match self.sender {
-            Sender::Client => false,
-            Sender::Chunk(name) => name.site == site,
+        match self.chunk {
+            Some(name) => name.site == site,
+            None => false,
         }
     }
 
-    /// The chunk that it carries, if it does.
-    pub fn chunk(&self) -> Option<Name> {
-        match self.sender {
-            Sender::Client => None,
-            Sender::Chunk(name) => Some(name),
-        }
-    }
-
-    /// The relay's end goes.
-    pub fn hang_up<R: Wait, D: Dir + Drop>(&mut self, rt: &R, lanes: &mut Lanes<D, Global>) {
-        if let Some(peer) = self.peer.take() {
-            peer.end(rt, lanes);
-        }
+    /// Nothing more comes of it. The relay's end, if it is there, is to end.
+    pub fn cut(&mut self) -> Option<E> {
         self.is_over = true;
+        self.server.take()
     }
 
-    /// Ends it.
-    pub fn end<R: Wait, D: Dir + Drop>(self, rt: &R, lanes: &mut Lanes<D, Global>) {
+    // The relay's end, if it is there, is left of it.
+    fn into_server(self) -> Option<E> {
         let Link {
-            sender: _,
+            chunk: _,
             message: _,
             to: _,
             source: _,
@@ -76,31 +56,28 @@ impl Link {
             entries: _,
             asks: _,
             client: _,
-            peer,
+            server,
             delivery: _,
             is_answered: _,
             is_over: _,
             is_deaf: _,
         } = self;
-        if let Some(peer) = peer {
-            peer.end(rt, lanes);
-        }
+        server
     }
+}
 
+impl<E: Server> Link<E> {
     /// Whether a delivery of its message waits.
     pub fn is_waiting(&self) -> bool {
-        match &self.peer {
-            Some(peer) => peer.is_waiting(),
+        match &self.server {
+            Some(server) => server.awaits(),
             None => false,
         }
     }
 
     /// Whether the relay has answered since this was asked last.
     pub fn notes_answer(&mut self) -> bool {
-        let Some(peer) = &self.peer else {
-            return false;
-        };
-        if self.is_answered || peer.outgoing().is_empty() {
+        if self.is_answered || !self.is_answering() {
             return false;
         }
         self.is_answered = true;
@@ -109,22 +86,20 @@ impl Link {
 
     /// So many bytes of the answer at most, which are under way, come to the sender.
     pub fn hear(&mut self, alloc: Global, most: usize) -> Result<Heard<Global>, AllocError> {
-        let Some(peer) = &mut self.peer else {
+        let Some(server) = &mut self.server else {
             return Ok(Heard::Wait);
         };
-        let count = most.min(peer.outgoing().len());
-        let piece = Vec::from_slice(alloc, peer.outgoing().split_at(count).0)?;
+        let piece = server.take_answer(alloc, most)?;
         if piece.is_empty() {
             return Ok(Heard::Wait);
         }
-        peer.sent(count);
         self.client.feed(&piece)
     }
 
     /// Whether some of an answer is under way.
     pub fn is_answering(&self) -> bool {
-        match &self.peer {
-            Some(peer) => !peer.outgoing().is_empty(),
+        match &self.server {
+            Some(server) => !server.answer().is_empty(),
             None => false,
         }
     }
@@ -133,12 +108,22 @@ impl Link {
     pub fn is_unheard(&self) -> bool {
         self.is_answered && !self.is_answering()
     }
+}
 
-    /// What of an answer is under way; none where the relay's end is gone.
-    pub fn under_way(&self, alloc: Global) -> Result<Vec<u8>, AllocError> {
-        match &self.peer {
-            Some(peer) => Vec::from_slice(alloc, peer.outgoing()),
-            None => Ok(Vec::new(alloc)),
+/// The relay's end of a connection goes.
+pub fn hang_up<R: Wait, P: Parts>(rt: &R, open: &mut P, link: &mut Link<P::Server>) {
+    if let Some(server) = link.cut() {
+        open.hang_up(rt, server);
+    }
+}
+
+/// Ends these connections where no relay is open.
+pub fn end_links<R: Wait, P: Parts>(rt: &R, links: Vec<Link<P::Server>>, spare: &mut P::Spare) {
+    let mut rest = links.into_iter();
+    while let Some(link) = rest.next() {
+        if let Some(server) = link.into_server() {
+            P::hang_up_in(rt, server, spare);
         }
     }
+    rest.destroy_empty();
 }

@@ -1,12 +1,14 @@
 //! The parts of a relay, made of its configuration and over its folders.
 
+use crate::drawing::FIRST_PORT;
 use crate::lent::Lendable;
+use crate::parts::{Aim, Settings};
+use crate::product::{Folders, OpenRelay, Output};
 use crate::shelf::Shelf;
-use crate::site::OpenSite;
 use ack_receipt::Numbers;
 use flush_pool::SinkCourier;
 use loop_core::{RelayParts, open_all, parts_of};
-use relay_conf::{Relay, Source};
+use relay_conf::{BufferKind, BufferSettings, ForwardSettings, OverflowAction, Relay, Source};
 use relay_ports::{BufferedOutput, Inlet, RelaySetup, SetupParts};
 use route_graph::Routes;
 use sink_series::{FileLimits, Rotation};
@@ -20,16 +22,12 @@ const LIMITS: FileLimits = FileLimits {
     pause: u64::MAX,
 };
 
-/// The relay with this number and configuration over these folders of buffers and of sinks; `None`
-/// where it doesn't open.
-pub fn open_site<D: Lendable + Drop>(
+/// The relay over these folders; `None` where it doesn't open.
+pub fn open_relay<D: Lendable + Drop>(
     alloc: Global,
-    number: u32,
-    conf: &[u8],
-    shelf: &Shelf<D>,
-    sinks: &Shelf<D>,
-) -> Result<Option<OpenSite<D>>, AllocError> {
-    let Some(parts) = setup(alloc, number, conf) else {
+    folders: &Folders<D>,
+) -> Result<Option<OpenRelay<D>>, AllocError> {
+    let Some(parts) = setup(alloc, folders.number, &folders.conf) else {
         return Ok(None);
     };
     let SetupParts {
@@ -39,7 +37,14 @@ pub fn open_site<D: Lendable + Drop>(
         outputs,
     } = parts;
     let inlets = inlets(alloc, number, &routes, sources)?;
-    open_outputs(alloc, number, inlets, outputs, shelf, sinks)
+    open_outputs(
+        alloc,
+        number,
+        inlets,
+        outputs,
+        &folders.buffers,
+        &folders.sinks,
+    )
 }
 
 // The same of these outputs, behind these inlets.
@@ -47,15 +52,15 @@ fn open_outputs<D: Lendable + Drop>(
     alloc: Global,
     number: u32,
     inlets: Vec<Arc<Inlet<Global>>>,
-    outputs: Vec<BufferedOutput<Global>>,
-    shelf: &Shelf<D>,
+    buffered: Vec<BufferedOutput<Global>>,
+    buffers: &Shelf<D>,
     sinks: &Shelf<D>,
-) -> Result<Option<OpenSite<D>>, AllocError> {
-    let Some(sinks) = open_sinks(alloc, sinks, &outputs)? else {
+) -> Result<Option<OpenRelay<D>>, AllocError> {
+    let Some(outputs) = open_sinks(alloc, sinks, &buffered)? else {
         return Ok(None);
     };
-    match open_buffers(alloc, number, outputs, shelf)? {
-        Some(parts) => Ok(Some(put_together(parts, inlets, sinks))),
+    match open_buffers(alloc, number, buffered, buffers)? {
+        Some(parts) => Ok(Some(put_together(parts, inlets, outputs))),
         None => Ok(None),
     }
 }
@@ -77,19 +82,18 @@ fn open_buffers<D: Lendable + Drop>(
 fn put_together<D: Lendable + Drop>(
     parts: RelayParts<D, Global>,
     inlets: Vec<Arc<Inlet<Global>>>,
-    sinks: Vec<Option<SinkCourier<D, Global>>>,
-) -> OpenSite<D> {
+    outputs: Vec<Output<D>>,
+) -> OpenRelay<D> {
     let RelayParts {
         lanes,
         buffers,
-        jobs,
+        jobs: _,
     } = parts;
-    OpenSite {
+    OpenRelay {
         lanes,
         buffers,
-        jobs,
         inlets,
-        sinks,
+        outputs,
         numbers: Numbers::new(),
     }
 }
@@ -139,49 +143,84 @@ fn inlet(
     Ok(Arc::new(alloc, inlet)?)
 }
 
-// The sinks of these outputs, by their numbers; `None` where one doesn't open.
+// These outputs with their sinks, by their numbers; `None` where one doesn't open.
 fn open_sinks<D: Lendable + Drop>(
     alloc: Global,
     shelf: &Shelf<D>,
     outputs: &[BufferedOutput<Global>],
-) -> Result<Option<Vec<Option<SinkCourier<D, Global>>>>, AllocError> {
+) -> Result<Option<Vec<Output<D>>>, AllocError> {
     let mut all = Vec::new(alloc);
     for output in outputs {
-        if !put_sink(alloc, shelf, output, &mut all)? {
-            return Ok(None);
+        match open_output(alloc, shelf, output)? {
+            Some(output) => all.push(output)?,
+            None => return Ok(None),
         }
     }
     Ok(Some(all))
 }
 
-// Adds the sink of this output, or that it has none; `false` where it doesn't open.
-fn put_sink<D: Lendable + Drop>(
+// This output, with its sink where it has one; `None` where that doesn't open.
+fn open_output<D: Lendable + Drop>(
     alloc: Global,
     shelf: &Shelf<D>,
     output: &BufferedOutput<Global>,
-    all: &mut Vec<Option<SinkCourier<D, Global>>>,
-) -> Result<bool, AllocError> {
-    all.reserve(1)?;
-    let BufferedOutput::File(settings) = output else {
-        all.push_reserved(None);
-        return Ok(true);
-    };
-    match open_sink(alloc, shelf, settings.path.as_bytes())? {
-        Some(sink) => {
-            all.push_reserved(Some(sink));
-            Ok(true)
-        }
-        None => Ok(false),
+) -> Result<Option<Output<D>>, AllocError> {
+    let settings = settings_of(output.buffer(), aim_of(output));
+    match output {
+        BufferedOutput::Forward(_) => Ok(Some(Output {
+            settings,
+            path: Vec::new(alloc),
+            sink: None,
+        })),
+        BufferedOutput::File(file) => open_sink(alloc, shelf, settings, file.path.as_bytes()),
     }
 }
 
+// An output with its sink, which is at this path; `None` where that doesn't open.
 fn open_sink<D: Lendable + Drop>(
     alloc: Global,
     shelf: &Shelf<D>,
+    settings: Settings,
     path: &[u8],
-) -> Result<Option<SinkCourier<D, Global>>, AllocError> {
+) -> Result<Option<Output<D>>, AllocError> {
     match Rotation::open(alloc, shelf.take(path)?, path, LIMITS, 0) {
-        Ok(sink) => Ok(Some(SinkCourier::new(sink))),
+        Ok(sink) => Ok(Some(Output {
+            settings,
+            path: Vec::from_slice(alloc, path)?,
+            sink: Some(SinkCourier::new(sink)),
+        })),
         Err(_) => Ok(None),
+    }
+}
+
+// What is looked at of an output whose chunks go there.
+fn settings_of(buffer: &BufferSettings<Global>, aim: Aim) -> Settings {
+    Settings {
+        aim,
+        is_in_memory: matches!(&buffer.kind, BufferKind::Memory),
+        drops_oldest: buffer.overflow_action == OverflowAction::DropOldestChunk,
+        gives_up: !buffer.retry.forever,
+        limit: buffer.total_limit_size,
+    }
+}
+
+// Where an output's chunks go.
+fn aim_of(output: &BufferedOutput<Global>) -> Aim {
+    match output {
+        BufferedOutput::File(_) => Aim::Sink,
+        BufferedOutput::Forward(settings) => aim_by(settings),
+    }
+}
+
+// The same of one that sends to a relay, by the port of that.
+fn aim_by(settings: &ForwardSettings<Global>) -> Aim {
+    let Some(server) = settings.servers.first() else {
+        return Aim::Nowhere;
+    };
+    let port = server.port.saturating_sub(FIRST_PORT) as usize;
+    Aim::Relay {
+        to: port / 10,
+        source: port % 10,
+        asks: settings.require_ack_response,
     }
 }

@@ -2,52 +2,42 @@
 
 use crate::dice::Dice;
 use crate::disk::Devices;
+use crate::held::{give_all_back, name_at};
 use crate::judge::Judge;
-use crate::lent::Lendable;
-use crate::link::Link;
-use crate::run::{Run, name_at};
+use crate::link::{Link, end_links, hang_up};
+use crate::machine::Machine;
+use crate::parts::Parts;
+use crate::run::Run;
 use crate::site::Site;
-use crate::stock::give_all_back;
-use custody_core::is_kept_as;
-use loop_core::Lanes;
-use loss_checker::{Answer, Plan};
 use std::alloc::{AllocError, Global};
 use std::sync::Wait;
 use std::time::Clock;
 
-/// The port of a network's first source; those of the relay behind it are ten higher.
-pub const FIRST_PORT: u16 = 24_000;
-
-/// A network: its relays have these configurations, and the numbers from the first on. The
-/// checker's answer to its plan says whether each event has to be kept.
-#[derive(Drop)]
-pub struct Network<'a> {
+/// What is played: a network, whose relays have these configurations, and the numbers from the
+/// first on; whether each event has to be kept, as the checker says of its plan; and the acts of
+/// the run of this seed, by their numbers.
+#[derive(Clone, Copy)]
+pub struct Script<'a> {
     pub first: u32,
     pub confs: &'a [Vec<u8>],
-    pub plan: &'a Plan<Global>,
-    pub answer: Answer,
-}
-
-/// The acts of the run of this seed, by their numbers.
-#[derive(Drop)]
-pub struct Acts<'a> {
+    pub keeps_all: bool,
     pub seed: u64,
-    pub numbers: &'a [u64],
+    pub acts: &'a [u64],
 }
 
 /// Runs the network with these acts, and says what is wrong, with the steps so far; `None` where
 /// nothing is.
-pub fn play<R: Wait + Clock, D: Lendable + Drop>(
+pub fn play<R: Wait + Clock, P: Parts, M: Machine>(
     rt: &R,
     alloc: Global,
-    network: &Network<'_>,
-    acts: &Acts<'_>,
+    script: Script<'_>,
+    machine: M,
 ) -> Result<Option<String>, AllocError> {
-    let spare = Lanes::with_capacity(alloc, 0)?;
-    let mut run: Run<'_, D> = Run {
+    let spare = P::spare(alloc)?;
+    let mut run: Run<P, M> = Run {
         alloc,
-        dice: Dice::of_act(acts.seed, u64::MAX),
-        judge: Judge::new(alloc, network.plan.net()),
+        dice: Dice::of_act(script.seed, u64::MAX),
+        judge: Judge::new(alloc, machine),
         sites: Vec::new(alloc),
         links: Vec::new(alloc),
         begun: Vec::new(alloc),
@@ -55,48 +45,30 @@ pub fn play<R: Wait + Clock, D: Lendable + Drop>(
         spare,
         events: 0,
     };
-    let played = run.play(rt, network, acts);
+    let played = run.play(rt, script);
     let said = run.end(rt);
     played?;
     said
 }
 
-impl<'n, D: Lendable + Drop> Run<'n, D> {
-    fn play<R: Wait + Clock>(
-        &mut self,
-        rt: &R,
-        network: &Network<'_>,
-        acts: &Acts<'_>,
-    ) -> Result<(), AllocError> {
-        let mut number = network.first;
-        for conf in network.confs {
-            self.add_site(rt, number, conf.as_slice())?;
-            number = number.saturating_add(1);
-        }
-        for act in acts.numbers {
+impl<P: Parts, M: Machine> Run<P, M> {
+    fn play<R: Wait + Clock>(&mut self, rt: &R, script: Script<'_>) -> Result<(), AllocError> {
+        put_sites(self.alloc, &mut self.sites, script)?;
+        open_sites(rt, self.alloc, &mut self.sites, &mut self.judge)?;
+        for act in script.acts {
             if self.judge.wrong().is_some() {
                 return Ok(());
             }
-            self.dice = Dice::of_act(acts.seed, *act);
+            self.dice = Dice::of_act(script.seed, *act);
             self.act(rt)?;
             self.restart_where(rt, true)?;
         }
-        self.dice = Dice::of_act(acts.seed, u64::MAX);
+        self.dice = Dice::of_act(script.seed, u64::MAX);
         self.restart_where(rt, false)?;
-        if network.answer == Answer::Yes {
-            self.ask_for_all(network.plan)?;
+        if script.keeps_all {
+            return ask_for_all(&mut self.judge);
         }
         Ok(())
-    }
-
-    // A relay that opens.
-    fn add_site<R: Wait>(&mut self, rt: &R, number: u32, conf: &[u8]) -> Result<(), AllocError> {
-        let at = self.sites.len();
-        put_site(self.alloc, &mut self.sites, number, conf)?;
-        if open_site(rt, self.alloc, &mut self.sites, at)? {
-            return Ok(());
-        }
-        self.judge.fail_relay(number, "doesn't open")
     }
 
     // One part moves.
@@ -149,9 +121,7 @@ impl<'n, D: Lendable + Drop> Run<'n, D> {
         if self.dice.once_in(2) {
             return self.drop_oldest(rt, site, buffer);
         }
-        if let Some(link) = self.links.get_mut(link) {
-            hang_up(rt, &mut self.sites, link);
-        }
+        cut(rt, &mut self.sites, &mut self.links, link);
         Ok(())
     }
 
@@ -160,14 +130,6 @@ impl<'n, D: Lendable + Drop> Run<'n, D> {
             let stop = self.dice.stop();
             let devices = self.dice.devices();
             return self.restart(rt, site, stop, devices);
-        }
-        Ok(())
-    }
-
-    // Each event that was acknowledged to a client is kept as the plan asks.
-    fn ask_for_all(&mut self, plan: &Plan<Global>) -> Result<(), AllocError> {
-        for number in 0..self.judge.world.acknowledged().len() {
-            ask_for(&mut self.judge, plan, number)?;
         }
         Ok(())
     }
@@ -185,51 +147,31 @@ impl<'n, D: Lendable + Drop> Run<'n, D> {
             mut spare,
             events: _,
         } = self;
-        end_links(rt, links, &mut spare);
+        end_links::<R, P>(rt, links, &mut spare);
         give_all_back(rt, held);
-        let _ = spare.end(rt);
+        P::end_spare(rt, spare);
         end_sites(rt, sites);
         said(alloc, &judge)
     }
 }
 
-// This event, by its place among those that were acknowledged, is kept as the plan asks.
-fn ask_for(judge: &mut Judge<'_>, plan: &Plan<Global>, number: usize) -> Result<(), AllocError> {
-    if is_kept_as(&judge.world, plan.duty(), number)? {
-        return Ok(());
-    }
-    judge.fail_event(number, "isn't kept")
-}
-
-// Whether the relay at this place has to be opened again.
-fn is_refusing<D: Lendable + Drop>(sites: &[Site<D>], at: usize) -> bool {
-    match sites.get(at) {
-        Some(site) => site.is_refusing(),
-        None => false,
-    }
-}
-
-// How many buffers the relay at this place has.
-fn count_buffers<D: Lendable + Drop>(sites: &[Site<D>], at: usize) -> usize {
-    match sites.get(at) {
-        Some(site) => site.count_buffers(),
-        None => 0,
-    }
-}
-
-// The relay's end of a connection goes, if the relay is open.
-fn hang_up<R: Wait, D: Lendable + Drop>(rt: &R, sites: &mut [Site<D>], link: &mut Link) {
-    if let Some(site) = sites.get_mut(link.to)
-        && let Some(open) = &mut site.open
-    {
-        link.hang_up(rt, &mut open.lanes);
-    }
-}
-
-// Puts a relay that was never open behind the others.
-fn put_site<D: Lendable + Drop>(
+// The relays, none of which was ever open.
+fn put_sites<P: Parts>(
     alloc: Global,
-    sites: &mut Vec<Site<D>>,
+    sites: &mut Vec<Site<P>>,
+    script: Script<'_>,
+) -> Result<(), AllocError> {
+    let mut number = script.first;
+    for conf in script.confs {
+        put_site(alloc, sites, number, conf.as_slice())?;
+        number = number.saturating_add(1);
+    }
+    Ok(())
+}
+
+fn put_site<P: Parts>(
+    alloc: Global,
+    sites: &mut Vec<Site<P>>,
     number: u32,
     conf: &[u8],
 ) -> Result<(), AllocError> {
@@ -238,43 +180,95 @@ fn put_site<D: Lendable + Drop>(
     Ok(())
 }
 
-// Opens the relay at this place over sound devices, if there is one: whether it opens.
-fn open_site<R: Wait, D: Lendable + Drop>(
+// Each relay opens.
+fn open_sites<R: Wait, P: Parts, M: Machine>(
     rt: &R,
     alloc: Global,
-    sites: &mut [Site<D>],
-    at: usize,
-) -> Result<bool, AllocError> {
-    match sites.get_mut(at) {
-        Some(site) => site.open(rt, alloc, Devices::SOUND),
-        None => Ok(true),
+    sites: &mut [Site<P>],
+    judge: &mut Judge<M>,
+) -> Result<(), AllocError> {
+    for site in sites.iter_mut() {
+        open_first(rt, alloc, site, judge)?;
+    }
+    Ok(())
+}
+
+// Opens a relay that was never open.
+fn open_first<R: Wait, P: Parts, M: Machine>(
+    rt: &R,
+    alloc: Global,
+    site: &mut Site<P>,
+    judge: &mut Judge<M>,
+) -> Result<(), AllocError> {
+    if site.open(rt, alloc, Devices::SOUND)? {
+        return Ok(());
+    }
+    judge.fail_relay(site.number, "doesn't open")
+}
+
+// Each event that was acknowledged to a client is kept as the plan asks.
+fn ask_for_all<M: Machine>(judge: &mut Judge<M>) -> Result<(), AllocError> {
+    for number in 0..judge.machine.count_acknowledged() {
+        ask_for(judge, number)?;
+    }
+    Ok(())
+}
+
+// The same of this event, by its place among those that were acknowledged.
+fn ask_for<M: Machine>(judge: &mut Judge<M>, number: usize) -> Result<(), AllocError> {
+    if judge.machine.keeps(number)? {
+        return Ok(());
+    }
+    judge.fail_at("event", &[number as u64], "isn't kept")
+}
+
+// Whether the relay at this place has to be opened again.
+fn is_refusing<P: Parts>(sites: &[Site<P>], at: usize) -> bool {
+    match sites.get(at) {
+        Some(site) => site.is_refusing(),
+        None => false,
+    }
+}
+
+// How many buffers the relay at this place has.
+fn count_buffers<P: Parts>(sites: &[Site<P>], at: usize) -> usize {
+    match sites.get(at) {
+        Some(site) => site.count_buffers(),
+        None => 0,
+    }
+}
+
+// The relay's end of a connection goes, if the relay is open.
+fn cut<R: Wait, P: Parts>(rt: &R, sites: &mut [Site<P>], links: &mut [Link<P::Server>], at: usize) {
+    if let Some(link) = links.get_mut(at)
+        && let Some(site) = sites.get_mut(link.to)
+        && let Some(open) = &mut site.open
+    {
+        hang_up(rt, open, link);
     }
 }
 
 // What is wrong, with the steps so far.
-fn said(alloc: Global, judge: &Judge<'_>) -> Result<Option<String>, AllocError> {
-    let Some(what) = judge.wrong() else {
-        return Ok(None);
-    };
+fn said<M: Machine>(alloc: Global, judge: &Judge<M>) -> Result<Option<String>, AllocError> {
+    match judge.wrong() {
+        Some(what) => Ok(Some(written(alloc, what, &judge.lines)?)),
+        None => Ok(None),
+    }
+}
+
+// What is wrong, and behind it the steps that weren't taken out.
+fn written(alloc: Global, what: &str, lines: &[String]) -> Result<String, AllocError> {
     let mut text = format!(in alloc; "# {what}\n")?;
-    for line in &judge.lines {
+    for line in lines {
         if !line.is_empty() {
             text.push_str(line.as_str())?;
             text.push_str("\n")?;
         }
     }
-    Ok(Some(text))
+    Ok(text)
 }
 
-fn end_links<R: Wait, D: Lendable + Drop>(rt: &R, links: Vec<Link>, spare: &mut Lanes<D, Global>) {
-    let mut rest = links.into_iter();
-    while let Some(link) = rest.next() {
-        link.end(rt, spare);
-    }
-    rest.destroy_empty();
-}
-
-fn end_sites<R: Wait, D: Lendable + Drop>(rt: &R, sites: Vec<Site<D>>) {
+fn end_sites<R: Wait, P: Parts>(rt: &R, sites: Vec<Site<P>>) {
     let mut rest = sites.into_iter();
     while let Some(site) = rest.next() {
         site.end(rt);

@@ -3,21 +3,35 @@
 use crate::dice::Dice;
 use crate::drawing::{Drawing, draw};
 use crate::lent::Lent;
-use crate::playing::{Acts, Network, play};
+use crate::machine::Proved;
+use crate::playing::{Script, play};
+use crate::product::OpenRelay;
 use disk_files::{Fuse, MemoryDir};
 use label_plan::labelled_text;
-use loss_checker::{Plan, check, conf_names};
+use loss_checker::{Answer, Plan, check, conf_names};
 use std::alloc::{AllocError, Global};
 use std::sync::Wait;
 use std::time::Clock;
 
 /// The network of a seed, and its plan; none where the text isn't one.
-#[derive(Drop)]
 pub struct Drawn {
     pub seed: u64,
     pub drawing: Drawing,
     plan: Option<Plan<Global>>,
 }
+
+impl Drop for Drawn {
+    fn drop(self) {
+        let Drawn {
+            seed: _,
+            drawing: _,
+            plan: _,
+        } = self;
+    }
+}
+
+// What runs where a network is played.
+type Product = OpenRelay<Lent<Fuse<MemoryDir<Global>>>>;
 
 impl Drawn {
     /// Draws the network of this seed.
@@ -52,17 +66,14 @@ impl Drawn {
         let Some(plan) = &self.plan else {
             return Ok(Some(String::from_str(alloc, "# the plan isn't one\n")?));
         };
-        let network = Network {
+        let script = Script {
             first: self.drawing.first,
             confs: &self.drawing.confs,
-            plan,
-            answer: check(alloc, plan)?,
-        };
-        let acts = Acts {
+            keeps_all: check(alloc, plan)? == Answer::Yes,
             seed: self.seed,
-            numbers: acts,
+            acts,
         };
-        play::<R, Lent<Fuse<MemoryDir<Global>>>>(rt, alloc, &network, &acts)
+        play::<R, Product, Proved<'_>>(rt, alloc, script, Proved::new(alloc, plan))
     }
 }
 

@@ -1,11 +1,14 @@
 //! Messages: a client sends one, and a connection opens on which one is sent.
 
-use crate::lent::Lendable;
-use crate::link::{Link, Sender};
+use crate::held::Name;
+use crate::link::Link;
+use crate::machine::Machine;
+use crate::parts::Parts;
 use crate::run::Run;
 use event_modes::{ChunkId, Entries, LONGEST_TAG};
 use forward_core::ClientSession;
 use std::alloc::{AllocError, Global};
+use std::fmt::Write;
 
 /// How many bytes an entry of the run has.
 pub const ENTRY_LEN: usize = 7;
@@ -48,16 +51,10 @@ fn send_line(
     let mut line = format!(in alloc; "send {client} {tag}")?;
     let mut number = first;
     for _ in 0..count {
-        push_event(alloc, &mut line, number)?;
+        write!(&mut line, " 92ce{number:08x}80")?;
         number = number.saturating_add(1);
     }
     Ok(line)
-}
-
-// Behind a step, the event of this number.
-fn push_event(alloc: Global, line: &mut String, number: u32) -> Result<(), AllocError> {
-    let event = format!(in alloc; " 92ce{number:08x}80")?;
-    line.push_str(event.as_str())
 }
 
 /// A message that is to be sent: its tag, its entries, the name that it asks an acknowledgement
@@ -83,7 +80,7 @@ fn session(
     Ok(Some(client))
 }
 
-impl<'n, D: Lendable + Drop> Run<'n, D> {
+impl<P: Parts, M: Machine> Run<P, M> {
     /// A client sends a message of up to three events.
     pub fn send(&mut self) -> Result<(), AllocError> {
         let client = self.dice.below(2);
@@ -94,14 +91,34 @@ impl<'n, D: Lendable + Drop> Run<'n, D> {
         self.judge.tell(line)?;
         let message = self.judge.next_message();
         self.events = self.events.saturating_add(count as u32);
-        match entries(self.alloc, first, count)? {
-            Some(entries) => {
-                let letter = client_letter(message, tag, &entries);
-                let (links, sender) = (&mut self.links, Sender::Client);
-                put_link(self.alloc, links, sender, message, 0, client, &letter)
-            }
-            None => Ok(()),
+        send_events(
+            self.alloc,
+            &mut self.links,
+            client,
+            message,
+            tag,
+            first,
+            count,
+        )
+    }
+}
+
+// A client sends so many events, from this number on, as this message.
+fn send_events<E>(
+    alloc: Global,
+    links: &mut Vec<Link<E>>,
+    client: usize,
+    message: u64,
+    tag: &str,
+    first: u32,
+    count: usize,
+) -> Result<(), AllocError> {
+    match entries(alloc, first, count)? {
+        Some(entries) => {
+            let letter = client_letter(message, tag, &entries);
+            put_link(alloc, links, None, message, 0, client, &letter)
         }
+        None => Ok(()),
     }
 }
 
@@ -120,55 +137,36 @@ fn client_letter<'a>(message: u64, tag: &'a str, entries: &'a Entries<Global>) -
     }
 }
 
-/// A connection to this source of a relay opens, on which the message is sent, if it can be sent.
-pub fn put_link(
+/// A connection to this source of a relay opens, on which the message is sent, if it can be sent:
+/// that of a chunk, or a client's.
+pub fn put_link<E>(
     alloc: Global,
-    links: &mut Vec<Link>,
-    sender: Sender,
+    links: &mut Vec<Link<E>>,
+    chunk: Option<Name>,
     message: u64,
     to: usize,
     source: usize,
     letter: &Letter<'_>,
 ) -> Result<(), AllocError> {
     links.reserve(1)?;
-    if let Some(link) = new_link(alloc, sender, message, to, source, letter)? {
-        links.push_reserved(link);
+    if let Some(client) = session(alloc, letter)? {
+        let bytes = Vec::from_slice(alloc, client.outgoing())?;
+        let entries = Vec::from_slice(alloc, letter.entries.as_bytes())?;
+        links.push_reserved(Link {
+            chunk,
+            message,
+            to,
+            source,
+            bytes,
+            entries,
+            asks: letter.asks,
+            client,
+            server: None,
+            delivery: None,
+            is_answered: false,
+            is_over: false,
+            is_deaf: false,
+        });
     }
     Ok(())
-}
-
-// Copies of both.
-fn copies(alloc: Global, one: &[u8], other: &[u8]) -> Result<(Vec<u8>, Vec<u8>), AllocError> {
-    let one = Vec::from_slice(alloc, one)?;
-    Ok((one, Vec::from_slice(alloc, other)?))
-}
-
-// A connection on which the message is sent; `None` where it can't be.
-fn new_link(
-    alloc: Global,
-    sender: Sender,
-    message: u64,
-    to: usize,
-    source: usize,
-    letter: &Letter<'_>,
-) -> Result<Option<Link>, AllocError> {
-    let Some(client) = session(alloc, letter)? else {
-        return Ok(None);
-    };
-    let (bytes, entries) = copies(alloc, client.outgoing(), letter.entries.as_bytes())?;
-    Ok(Some(Link {
-        sender,
-        message,
-        to,
-        source,
-        bytes,
-        entries,
-        asks: letter.asks,
-        client,
-        peer: None,
-        delivery: None,
-        is_answered: false,
-        is_over: false,
-        is_deaf: false,
-    }))
 }

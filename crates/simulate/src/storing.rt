@@ -3,16 +3,15 @@
 use crate::chunks::{Chunks, Stage};
 use crate::disk::Devices;
 use crate::judge::Judge;
-use crate::lent::Lendable;
 use crate::link::Link;
+use crate::machine::Machine;
+use crate::parts::{Parts, Server, Task};
 use crate::run::Run;
 use crate::site::Site;
-use disk_files::Dir;
-use loop_core::Lanes;
 use std::alloc::{AllocError, Global};
 use std::sync::Wait;
 
-impl<'n, D: Lendable + Drop> Run<'n, D> {
+impl<P: Parts, M: Machine> Run<P, M> {
     /// A relay queues what is staged, where that is due, and makes its receipts and answers; or it
     /// stops in between. Receipts may be wanting, as where there is no memory for them.
     pub fn store<R: Wait>(&mut self, rt: &R, at: usize) -> Result<(), AllocError> {
@@ -21,12 +20,7 @@ impl<'n, D: Lendable + Drop> Run<'n, D> {
         let Some(site) = self.sites.get_mut(at) else {
             return Ok(());
         };
-        if is_due {
-            queue(rt, site, &mut self.judge)?;
-        }
-        if part != 0 && part != 3 {
-            redeem(rt, site);
-        }
+        prepare(rt, site, is_due, part != 0 && part != 3, &mut self.judge)?;
         match part {
             0 => Ok(()),
             1 => {
@@ -45,119 +39,115 @@ impl<'n, D: Lendable + Drop> Run<'n, D> {
     }
 }
 
+// What is staged is queued, where that is due, and receipts are made, where they are to be.
+fn prepare<R: Wait, P: Parts, M: Machine>(
+    rt: &R,
+    site: &mut Site<P>,
+    is_due: bool,
+    are_made: bool,
+    judge: &mut Judge<M>,
+) -> Result<(), AllocError> {
+    let Some(open) = &mut site.open else {
+        return Ok(());
+    };
+    if is_due {
+        queue(rt, open, site.number, &mut site.chunks, judge)?;
+    }
+    if are_made {
+        redeem(rt, open, &mut site.chunks);
+    }
+    Ok(())
+}
+
 // Deliveries that have their receipts are answered, in their order: all that ask for it, where
 // receipts were made for all.
-fn answer<R: Wait, D: Lendable + Drop>(
+fn answer<R: Wait, P: Parts, M: Machine>(
     rt: &R,
     alloc: Global,
-    site: &mut Site<D>,
-    links: &mut [Link],
+    site: &mut Site<P>,
+    links: &mut [Link<P::Server>],
     begun: &[usize],
     at: usize,
     are_made: bool,
-    judge: &mut Judge<'_>,
+    judge: &mut Judge<M>,
 ) -> Result<(), AllocError> {
+    let Some(open) = &mut site.open else {
+        return Ok(());
+    };
     for begun in begun {
         if let Some(link) = links.get_mut(*begun)
             && link.to == at
         {
-            settle(rt, alloc, site, link, are_made, judge)?;
+            settle(rt, alloc, open, &mut site.chunks, link, are_made, judge)?;
         }
     }
     Ok(())
 }
 
 // Journals are written anew.
-fn renew<R: Wait, D: Lendable + Drop>(rt: &R, site: &mut Site<D>) {
+fn renew<R: Wait, P: Parts>(rt: &R, site: &mut Site<P>) {
     if let Some(open) = &mut site.open {
-        open.lanes.renew(rt);
+        open.tend(rt, Task::Renew);
     }
 }
 
 // What is staged is queued, which syncs its journal.
-fn queue<R: Wait, D: Lendable + Drop>(
+fn queue<R: Wait, P: Parts, M: Machine>(
     rt: &R,
-    site: &mut Site<D>,
-    judge: &mut Judge<'_>,
+    open: &mut P,
+    number: u32,
+    chunks: &mut Chunks,
+    judge: &mut Judge<M>,
 ) -> Result<(), AllocError> {
-    let Some(open) = &mut site.open else {
-        return Ok(());
-    };
-    if queue_due(rt, &mut open.lanes) {
-        site.chunks.sync_staged();
+    open.tend(rt, Task::Queue);
+    if !open.has_fault() {
+        chunks.sync_buffers(true);
     }
-    tell_queued(site.number, &mut site.chunks, judge)
-}
-
-// What is due is queued. It says whether no journal has failed.
-fn queue_due<R: Wait, D: Dir + Drop>(rt: &R, lanes: &mut Lanes<D, Global>) -> bool {
-    lanes.queue_due(rt);
-    lanes.fault().is_none()
+    tell_queued(number, chunks, judge)
 }
 
 // Receipts are made, for which each journal with an append that isn't synced is synced.
-fn redeem<R: Wait, D: Lendable + Drop>(rt: &R, site: &mut Site<D>) {
-    let Some(open) = &mut site.open else {
-        return;
-    };
-    if make_receipts(rt, &mut open.lanes) {
-        site.chunks.sync_appended();
+fn redeem<R: Wait, P: Parts>(rt: &R, open: &mut P, chunks: &mut Chunks) {
+    open.tend(rt, Task::Redeem);
+    if !open.has_fault() {
+        chunks.sync_buffers(false);
     }
 }
 
-// Receipts are made. It says whether no journal has failed.
-fn make_receipts<R: Wait, D: Dir + Drop>(rt: &R, lanes: &mut Lanes<D, Global>) -> bool {
-    lanes.redeem(rt);
-    lanes.fault().is_none()
-}
-
 // The delivery of a connection is answered if its receipts are there.
-fn settle<R: Wait, D: Lendable + Drop>(
+fn settle<R: Wait, P: Parts, M: Machine>(
     rt: &R,
     alloc: Global,
-    site: &mut Site<D>,
-    link: &mut Link,
+    open: &mut P,
+    chunks: &mut Chunks,
+    link: &mut Link<P::Server>,
     are_made: bool,
-    judge: &mut Judge<'_>,
+    judge: &mut Judge<M>,
 ) -> Result<(), AllocError> {
     let is_owed = are_made && link.asks && link.is_waiting();
-    let Some(open) = &mut site.open else {
-        return Ok(());
-    };
-    let is_sound = settle_peer(rt, alloc, link, &mut open.lanes);
-    note_answer(link, &mut site.chunks, judge)?;
-    if is_owed && !link.is_answered && is_sound {
+    if let Some(server) = &mut link.server {
+        open.settle(rt, alloc, server);
+    }
+    note_answer(link, chunks, judge)?;
+    if is_owed && !link.is_answered && !open.has_fault() {
         return judge.fail_message(link.message, "isn't answered");
     }
     Ok(())
 }
 
-// The relay's end of a connection settles what it has. It says whether no journal has failed.
-fn settle_peer<R: Wait, D: Dir + Drop>(
-    rt: &R,
-    alloc: Global,
-    link: &mut Link,
-    lanes: &mut Lanes<D, Global>,
-) -> bool {
-    if let Some(peer) = &mut link.peer {
-        peer.settle(rt, alloc, lanes);
-    }
-    lanes.fault().is_none()
-}
-
 // Whether the relay has answered is asked: then the answer is told, and no stop may lose what it is
 // of.
-fn note_answer(
-    link: &mut Link,
+fn note_answer<E: Server, M: Machine>(
+    link: &mut Link<E>,
     chunks: &mut Chunks,
-    judge: &mut Judge<'_>,
+    judge: &mut Judge<M>,
 ) -> Result<(), AllocError> {
     if !link.notes_answer() {
         return Ok(());
     }
     match link.delivery {
         Some(delivery) => {
-            judge.tell_number("ack", delivery)?;
+            judge.tell_numbers("ack", &[delivery])?;
             chunks.sync_delivery(delivery);
             Ok(())
         }
@@ -166,13 +156,13 @@ fn note_answer(
 }
 
 /// Tells that each staged chunk is queued.
-pub fn tell_queued(
+pub fn tell_queued<M: Machine>(
     number: u32,
     chunks: &mut Chunks,
-    judge: &mut Judge<'_>,
+    judge: &mut Judge<M>,
 ) -> Result<(), AllocError> {
     for chunk in chunks.all.iter_mut() {
-        if chunk.stage == Stage::Staged {
+        if matches!(chunk.stage, Stage::Staged) {
             chunk.stage = Stage::Queued;
             let line = judge.tell_chunk("enqueue", number, chunk.buffer, chunk.serial)?;
             chunk.queued = Some(line);

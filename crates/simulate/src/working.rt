@@ -1,129 +1,76 @@
 //! The workers of a relay deliver chunks.
 
 use crate::chunks::Stage;
-use crate::held::{Held, Name};
+use crate::held::{Held, Name, claim, give_back, held_of, keep};
 use crate::judge::Judge;
-use crate::lent::Lendable;
-use crate::link::Sender;
-use crate::playing::FIRST_PORT;
-use crate::run::{
-    Run, buffer_of, give_back, held_of, hold, misuse, number_of, refuse, tell_gone, tell_of,
-};
+use crate::machine::Machine;
+use crate::parts::{Aim, Hold, Parts};
+use crate::run::{Going, Run, number_of, refuse, tell, tell_of, tell_oldest, try_misuse};
 use crate::sending::{Letter, put_link};
-use crate::site::Site;
+use crate::site::{Refusal, Site};
 use ack_receipt::Evidence;
 use event_modes::{ChunkId, Entries};
-use flush_pool::SinkCourier;
-use relay_ports::BufferedOutput;
 use std::alloc::{AllocError, Global};
 use std::sync::Wait;
 use std::time::Clock;
 
-/// Where an output's chunks go.
-#[derive(Clone, Copy)]
-enum Aim {
-    Sink,
-    /// The relay at this place, by this source, with or without an acknowledgement.
-    Relay {
-        to: usize,
-        source: usize,
-        asks: bool,
-    },
-}
-
-impl<'n, D: Lendable + Drop> Run<'n, D> {
+impl<P: Parts, M: Machine> Run<P, M> {
     /// A worker of a relay claims a chunk.
     pub fn claim<R: Wait>(&mut self, rt: &R, site: usize, buffer: usize) -> Result<(), AllocError> {
         self.held.reserve(1)?;
-        let Some(shared) = buffer_of(&self.sites, site, buffer) else {
-            return Ok(());
-        };
-        let Some(held) = Held::claim(rt, site, buffer, shared) else {
-            return miss_queued(&self.sites, &mut self.judge, site, buffer);
-        };
-        let name = held.name();
-        hold(rt, &mut self.held, held);
-        tell_of(
-            &mut self.sites,
-            &mut self.judge,
-            "claim",
-            name,
-            Stage::Claimed,
-        )
+        match self.sites.get_mut(site) {
+            Some(one) => claim_of(rt, &mut self.held, one, &mut self.judge, site, buffer),
+            None => Ok(()),
+        }
     }
 
     /// A worker goes on with its chunk: it is delivered, given up, or given back, as when no answer
     /// came in time or no server is there.
     pub fn work<R: Wait + Clock>(&mut self, rt: &R, name: Name) -> Result<(), AllocError> {
         if self.dice.once_in(4) {
-            if give_back(rt, &mut self.held, name) {
-                tell_of(
-                    &mut self.sites,
-                    &mut self.judge,
-                    "back",
-                    name,
-                    Stage::Queued,
-                )?;
-            }
-            return Ok(());
+            let (held, sites, judge) = (&mut self.held, &mut self.sites, &mut self.judge);
+            return put_back(rt, held, sites, judge, name);
         }
+        let aim = aim_of(&self.sites, name);
         if self.dice.once_in(4) {
-            return self.give_up(rt, name);
+            return self.give_up(rt, name, aim);
         }
-        match aim_of(&self.sites, name) {
-            Some(Aim::Sink) => self.write(rt, name),
-            Some(Aim::Relay { to, source, asks }) => self.forward(rt, name, to, source, asks),
-            None => Ok(()),
+        match aim {
+            Aim::Sink => self.write(rt, name),
+            Aim::Relay { to, source, asks } => self.forward(rt, name, to, source, asks),
+            Aim::Nowhere => Ok(()),
         }
     }
 
     // The chunk is given up where its output does that. Else the buffer has to refuse that, or that
     // it was sent where that isn't enough.
-    fn give_up<R: Wait>(&mut self, rt: &R, name: Name) -> Result<(), AllocError> {
-        let is_sent = self.dice.once_in(2) && !goes_unasked(&self.sites, name);
+    fn give_up<R: Wait>(&mut self, rt: &R, name: Name, aim: Aim) -> Result<(), AllocError> {
+        let is_sent = self.dice.once_in(2) && !matches!(aim, Aim::Relay { asks: false, .. });
         let Some(evidence) = evidence_of(&self.held, name, is_sent) else {
             return Ok(());
         };
         if !is_sent && gives_up(&self.sites, name) {
-            return self.let_go_as(rt, name, evidence, "", "discard");
+            return self.let_go(rt, name, evidence, Going::GIVEN_UP);
         }
-        let judge = &mut self.judge;
-        if let Some(evidence) = misuse(rt, &mut self.held, &self.sites, judge, name, evidence)? {
+        let (held, judge) = (&mut self.held, &mut self.judge);
+        if let Some(evidence) = try_misuse(rt, held, &self.sites, judge, name, evidence)? {
             evidence.waste();
         }
         Ok(())
     }
 
-    /// The chunk goes on this evidence, which is told by these two steps.
-    pub fn let_go_as<R: Wait>(
-        &mut self,
-        rt: &R,
-        name: Name,
-        evidence: Evidence<Global>,
-        shown: &str,
-        word: &str,
-    ) -> Result<(), AllocError> {
-        let gone = self.let_go(rt, name, evidence)?;
-        let (sites, judge) = (&mut self.sites, &mut self.judge);
-        tell_gone(self.alloc, sites, judge, name, gone, shown, word)
-    }
-
     // The chunk is written to its sink.
     fn write<R: Wait + Clock>(&mut self, rt: &R, name: Name) -> Result<(), AllocError> {
         let Some(evidence) = stored(rt, &self.sites, &self.held, name) else {
-            return tear(self.alloc, &mut self.sites, &mut self.judge, name);
+            tear(&mut self.sites, name);
+            return Ok(());
         };
         if self.dice.once_in(6) {
             evidence.waste();
-            return tell_of(
-                &mut self.sites,
-                &mut self.judge,
-                "write",
-                name,
-                Stage::Claimed,
-            );
+            let (sites, judge) = (&mut self.sites, &mut self.judge);
+            return tell_of(sites, judge, "write", name, Stage::Claimed);
         }
-        self.let_go_as(rt, name, evidence, "write", "purge")
+        self.let_go(rt, name, evidence, Going::WRITTEN)
     }
 
     // The chunk is sent to a relay, which may be asked for an acknowledgement.
@@ -135,50 +82,38 @@ impl<'n, D: Lendable + Drop> Run<'n, D> {
         source: usize,
         asks: bool,
     ) -> Result<(), AllocError> {
-        match body_of(rt, self.alloc, &self.held, name)? {
-            Some((tag, entries)) => self.send_on(name, &tag, &entries, to, source, asks)?,
-            None => return self.miss_body(name),
-        }
+        let Some(entries) = body_of(rt, &self.held, name) else {
+            refuse(&mut self.sites, name.site, "a chunk can't be read");
+            return Ok(());
+        };
+        self.send_on(name, &entries, to, source, asks)?;
         if asks {
             return Ok(());
         }
         match evidence_of(&self.held, name, true) {
-            Some(evidence) => self.let_go_as(rt, name, evidence, "", "done"),
+            Some(evidence) => self.let_go(rt, name, evidence, Going::SENT),
             None => Ok(()),
         }
     }
 
-    // A claimed chunk can't be read.
-    fn miss_body(&mut self, name: Name) -> Result<(), AllocError> {
-        let what = String::from_str(self.alloc, "a chunk can't be read")?;
-        refuse(&mut self.sites, &mut self.judge, name.site, what);
-        Ok(())
-    }
-
-    // A claimed chunk, which has this tag and these entries, is sent.
+    // A claimed chunk, which has these entries, is sent.
     fn send_on(
         &mut self,
         name: Name,
-        tag: &[u8],
         entries: &Entries<Global>,
         to: usize,
         source: usize,
         asks: bool,
     ) -> Result<(), AllocError> {
-        let Some(id) = id_of(&self.held, name) else {
+        let relay = number_of(&self.sites, name.site);
+        let judge = &mut self.judge;
+        judge.tell_chunk_with("forward", relay, name.buffer, name.serial, 0)?;
+        let message = judge.next_message();
+        let Some(letter) = letter_of(&self.held, name, entries, asks) else {
             return Ok(());
         };
-        let line = forward_line(self.alloc, number_of(&self.sites, name.site), name)?;
-        self.judge.tell(line)?;
-        let message = self.judge.next_message();
-        let letter = Letter {
-            tag,
-            entries,
-            id,
-            asks,
-        };
-        let (links, sender) = (&mut self.links, Sender::Chunk(name));
-        put_link(self.alloc, links, sender, message, to, source, &letter)
+        let links = &mut self.links;
+        put_link(self.alloc, links, Some(name), message, to, source, &letter)
     }
 
     /// A buffer's oldest queued chunk goes, where its output drops the oldest. Where devices may
@@ -190,170 +125,165 @@ impl<'n, D: Lendable + Drop> Run<'n, D> {
         buffer: usize,
     ) -> Result<(), AllocError> {
         match self.sites.get_mut(site) {
-            Some(site) => drop_oldest_of(rt, self.alloc, site, &mut self.judge, buffer),
+            Some(site) => drop_oldest_of(rt, site, &mut self.judge, buffer),
             None => Ok(()),
         }
     }
 }
 
-// Nothing was claimed of a buffer, which is wrong where a chunk of it is queued.
-fn miss_queued<D: Lendable + Drop>(
-    sites: &[Site<D>],
-    judge: &mut Judge<'_>,
-    site: usize,
+// A worker claims a chunk of this relay, which is at this place.
+fn claim_of<R: Wait, P: Parts, M: Machine>(
+    rt: &R,
+    all: &mut Vec<Held<P::Hold>>,
+    site: &mut Site<P>,
+    judge: &mut Judge<M>,
+    place: usize,
     buffer: usize,
 ) -> Result<(), AllocError> {
-    if let Some(site) = sites.get(site)
-        && site.chunks.has_in(buffer, Stage::Queued)
-    {
-        let what = "has a queued chunk that can't be claimed";
-        return judge.fail_buffer(site.number, buffer, what);
+    let Some(open) = &site.open else {
+        return Ok(());
+    };
+    if buffer >= open.count_buffers() {
+        return Ok(());
+    }
+    match claim(rt, open, place, buffer) {
+        Some(held) => note_claim(rt, all, site, judge, held),
+        None => miss_queued(site, judge, buffer),
+    }
+}
+
+// A chunk was claimed.
+fn note_claim<R: Wait, P: Parts, M: Machine>(
+    rt: &R,
+    all: &mut Vec<Held<P::Hold>>,
+    site: &mut Site<P>,
+    judge: &mut Judge<M>,
+    held: Held<P::Hold>,
+) -> Result<(), AllocError> {
+    let name = held.name;
+    keep(rt, all, held);
+    let chunks = &mut site.chunks;
+    tell(site.number, chunks, judge, "claim", name, Stage::Claimed)
+}
+
+// Nothing was claimed of a buffer, which is wrong where a chunk of it is queued.
+fn miss_queued<P: Parts, M: Machine>(
+    site: &Site<P>,
+    judge: &mut Judge<M>,
+    buffer: usize,
+) -> Result<(), AllocError> {
+    if site.chunks.oldest_queued(buffer).is_none() {
+        return Ok(());
+    }
+    let what = "has a queued chunk that can't be claimed";
+    judge.fail_buffer(site.number, buffer, what)
+}
+
+// A claimed chunk is given back.
+fn put_back<R: Wait, P: Parts, M: Machine>(
+    rt: &R,
+    all: &mut Vec<Held<P::Hold>>,
+    sites: &mut [Site<P>],
+    judge: &mut Judge<M>,
+    name: Name,
+) -> Result<(), AllocError> {
+    if give_back(rt, all, name) {
+        return tell_of(sites, judge, "back", name, Stage::Queued);
     }
     Ok(())
 }
 
-// What the output of a chunk says.
-fn output_of<D: Lendable + Drop>(sites: &[Site<D>], name: Name) -> Option<&BufferedOutput<Global>> {
-    match sites.get(name.site) {
-        Some(site) => site.output(name.buffer),
-        None => None,
+// Whether the output of a chunk gives chunks up.
+fn gives_up<P: Parts>(sites: &[Site<P>], name: Name) -> bool {
+    if let Some(site) = sites.get(name.site)
+        && let Some(settings) = site.settings(name.buffer)
+    {
+        return settings.gives_up;
     }
+    false
 }
 
-fn gives_up<D: Lendable + Drop>(sites: &[Site<D>], name: Name) -> bool {
-    match output_of(sites, name) {
-        Some(output) => !output.buffer().retry.forever,
-        None => false,
+// Where a chunk goes.
+fn aim_of<P: Parts>(sites: &[Site<P>], name: Name) -> Aim {
+    if let Some(site) = sites.get(name.site)
+        && let Some(settings) = site.settings(name.buffer)
+    {
+        return settings.aim;
     }
-}
-
-fn aim_of<D: Lendable + Drop>(sites: &[Site<D>], name: Name) -> Option<Aim> {
-    match output_of(sites, name)? {
-        BufferedOutput::File(_) => Some(Aim::Sink),
-        BufferedOutput::Forward(settings) => {
-            let server = settings.servers.first()?;
-            let port = server.port.saturating_sub(FIRST_PORT) as usize;
-            Some(Aim::Relay {
-                to: port / 10,
-                source: port % 10,
-                asks: settings.require_ack_response,
-            })
-        }
-    }
-}
-
-// Whether the chunk is to go as soon as it is sent.
-fn goes_unasked<D: Lendable + Drop>(sites: &[Site<D>], name: Name) -> bool {
-    matches!(aim_of(sites, name), Some(Aim::Relay { asks: false, .. }))
+    Aim::Nowhere
 }
 
 // The evidence that a claimed chunk was sent, or else that it is given up.
-fn evidence_of<D: Lendable + Drop>(
-    all: &[Held<D>],
-    name: Name,
-    is_sent: bool,
-) -> Option<Evidence<Global>> {
-    let Some(held) = held_of(all, name) else {
-        return None;
-    };
+fn evidence_of<H: Hold>(all: &[Held<H>], name: Name, is_sent: bool) -> Option<Evidence<Global>> {
+    let claim = held_of(all, name)?.claim();
     if is_sent {
-        return Some(Evidence::written(held.as_claim()));
+        return Some(Evidence::written(claim));
     }
-    Some(Evidence::expired(held.as_claim()))
+    Some(Evidence::expired(claim))
 }
 
-// What a claimed chunk is called where it is sent.
-fn id_of<D: Lendable + Drop>(all: &[Held<D>], name: Name) -> Option<ChunkId> {
-    match held_of(all, name) {
-        Some(held) => Some(held.as_claim().id()),
-        None => None,
-    }
-}
-
-// The step by which a chunk of the relay with this number is sent to another.
-fn forward_line(alloc: Global, number: u32, name: Name) -> Result<String, AllocError> {
-    let (buffer, serial) = (name.buffer, name.serial);
-    format!(in alloc; "forward {number}/{buffer}/{serial} 0")
+// A claimed chunk with these entries as a message.
+fn letter_of<'a, H: Hold>(
+    all: &'a [Held<H>],
+    name: Name,
+    entries: &'a Entries<Global>,
+    asks: bool,
+) -> Option<Letter<'a>> {
+    let claim = held_of(all, name)?.claim();
+    Some(Letter {
+        tag: claim.tag(),
+        entries,
+        id: claim.id(),
+        asks,
+    })
 }
 
 // The write of a chunk to its sink was refused.
-fn tear<D: Lendable + Drop>(
-    alloc: Global,
-    sites: &mut [Site<D>],
-    judge: &mut Judge<'_>,
-    name: Name,
-) -> Result<(), AllocError> {
-    let what = String::from_str(alloc, "a sink can't be written")?;
-    refuse(sites, judge, name.site, what);
+fn tear<P: Parts>(sites: &mut [Site<P>], name: Name) {
     if let Some(site) = sites.get_mut(name.site) {
+        site.refuse(Refusal::Other("a sink can't be written"));
         site.torn = Some((name.buffer, name.serial));
     }
-    Ok(())
 }
 
 // The evidence that a sink has the chunk.
-fn stored<R: Wait + Clock, D: Lendable + Drop>(
+fn stored<R: Wait + Clock, P: Parts>(
     rt: &R,
-    sites: &[Site<D>],
-    all: &[Held<D>],
+    sites: &[Site<P>],
+    all: &[Held<P::Hold>],
     name: Name,
 ) -> Option<Evidence<Global>> {
-    match (held_of(all, name), sink_of(sites, name)) {
-        (Some(held), Some(sink)) => held.carried(rt, sink),
-        _ => None,
+    let hold = held_of(all, name)?;
+    if let Some(site) = sites.get(name.site)
+        && let Some(open) = &site.open
+    {
+        return open.carry(rt, name.buffer, hold);
     }
+    None
 }
 
-// The sink of a chunk's output, if the relay is open and the output has one.
-fn sink_of<D: Lendable + Drop>(sites: &[Site<D>], name: Name) -> Option<&SinkCourier<D, Global>> {
-    match sites.get(name.site) {
-        Some(site) => site.sink(name.buffer),
-        None => None,
-    }
-}
-
-// The tag and the entries of a claimed chunk.
-fn body_of<R: Wait, D: Lendable + Drop>(
-    rt: &R,
-    alloc: Global,
-    all: &[Held<D>],
-    name: Name,
-) -> Result<Option<(Vec<u8>, Entries<Global>)>, AllocError> {
-    let Some(held) = held_of(all, name) else {
-        return Ok(None);
-    };
-    let tag = Vec::from_slice(alloc, held.as_claim().tag())?;
-    match held.body(rt) {
-        Some(entries) => Ok(Some((tag, entries))),
-        None => Ok(None),
-    }
+// The entries of a claimed chunk.
+fn body_of<R: Wait, H: Hold>(rt: &R, all: &[Held<H>], name: Name) -> Option<Entries<Global>> {
+    held_of(all, name)?.body(rt)
 }
 
 // The oldest queued chunk of a buffer goes.
-fn drop_oldest_of<R: Wait, D: Lendable + Drop>(
+fn drop_oldest_of<R: Wait, P: Parts, M: Machine>(
     rt: &R,
-    alloc: Global,
-    site: &mut Site<D>,
-    judge: &mut Judge<'_>,
+    site: &mut Site<P>,
+    judge: &mut Judge<M>,
     buffer: usize,
 ) -> Result<(), AllocError> {
-    if site.is_failing() {
-        return Ok(());
+    match take_oldest(rt, site, buffer) {
+        Some(serial) => tell_oldest(site.number, &mut site.chunks, judge, buffer, serial),
+        None => Ok(()),
     }
-    let Some(serial) = take_oldest(rt, site, buffer) else {
-        return Ok(());
-    };
-    let line = judge.tell(format!(in alloc; "oldest {} {buffer}", site.number)?)?;
-    site.chunks.restage(buffer, serial, Stage::Gone, line);
-    Ok(())
 }
 
-fn take_oldest<R: Wait, D: Lendable + Drop>(rt: &R, site: &Site<D>, buffer: usize) -> Option<u64> {
-    let Some(shared) = site.buffer(buffer) else {
-        return None;
-    };
-    match shared.drop_oldest(rt) {
-        Ok(serial) => Some(serial),
-        Err(_) => None,
+// The same; nothing where none went.
+fn take_oldest<R: Wait, P: Parts>(rt: &R, site: &Site<P>, buffer: usize) -> Option<u64> {
+    match &site.open {
+        Some(open) if !site.is_failing => open.drop_oldest(rt, buffer),
+        _ => None,
     }
 }

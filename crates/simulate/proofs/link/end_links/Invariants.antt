@@ -1,5 +1,5 @@
 use Rattle.std.specs.Vec.Iter.{into_iter_len}
-use Rattle.simulate.proofs.playing.end_links.Given as goal
+use Rattle.simulate.proofs.link.end_links.Given as goal
 
 abbrev pub invariant-loop-link : goal.invariant-loop-link
 invariant-loop-link g l = Unit {0}

@@ -1,5 +1,5 @@
 use Rattle.std.specs.Vec.Iter.{into_iter_len}
-use Rattle.simulate.proofs.stock.give_all_back.Given as goal
+use Rattle.simulate.proofs.held.give_all_back.Given as goal
 
 abbrev pub invariant-loop-held : goal.invariant-loop-held
 invariant-loop-held g l = Unit {0}
