@@ -33,9 +33,9 @@ is_checked A given confs names is_labelled text plan broken checked (check.Refus
     inr (inr (record { is_labelled = is_labelled; text = text; plan = plan; broken = broken; checked = checked; says = says }))
 
 -- the line of a text that isn't read
-pub stop_line : (fault : ReadFault) (lines : List ℕ) → lines ≡ unread_line fault → IsStopLine lines Usage
-stop_line unread.Memory lines is = record { lines_are = inl is; is_status = refl }
-stop_line unread.Read lines is = record { lines_are = inr is; is_status = refl }
+pub stop_line : (fault : ReadFault) (lines : List ℕ) → lines ≡ unread_line fault → IsStopLine lines
+stop_line unread.Memory lines is = inl is
+stop_line unread.Read lines is = inr is
 
 -- what stops is said in place of faults
 pub stopped_unread : (out old new : Option (List ℕ)) (fault : ReadFault) (status : Status) → PrintsPlanStop (stop.Unread fault) old new status → PrintsUnread out out old new status

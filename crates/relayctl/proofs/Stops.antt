@@ -1,5 +1,5 @@
 -- From what stops to what `label` prints.
-use Rattle.std.proofs.Common.{ℕ, List, inr}
+use Rattle.std.proofs.Common.{ℕ, List, refl, inr}
 use Rattle.std.specs.Prelude.{Option}
 use Rattle.program_text.specs.declared.plan_text.PlanStop.{PlanStop}
 use Rattle.program_text.specs.Plans.{IsPlanStop, PrintsPlanStop}
@@ -14,6 +14,6 @@ pub stopped_labels : (A : Type 0) (net : Option (List ℕ)) (named : List ℕ �
 stopped_labels A net named old new stopped status of prints = record {
   lines = prints.lines;
   meant = Usage;
-  labels = inr (stop_said A net named stopped prints.lines of prints.said);
+  labels = inr (stop_said A net named stopped prints.lines of prints.said, refl);
   printed = prints.printed;
 }

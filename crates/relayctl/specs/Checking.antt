@@ -163,7 +163,7 @@ PrintsFound (check.Refused said) old new old_faults new_faults status =
 pub record PrintsUnread (old new old_faults new_faults : Option (List ℕ))
     (status : Status) : Type 0 where
   pub lines : List ℕ
-  pub stop : IsStopLine lines Usage
+  pub stop : IsStopLine lines
   pub said : IsPrinted old_faults new_faults lines Usage status
   pub silent : new ≡ old
 

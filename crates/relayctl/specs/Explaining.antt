@@ -105,5 +105,6 @@ pub record PrintsExplanation (A : Type 0) (net : Option (List ℕ)) (named : Lis
     (names : List DropName) (old new : Option (List ℕ)) (status : Status) : Type 0 where
   pub lines : List ℕ
   pub meant : Status
-  pub explained : IsExplanation A net named names lines meant ⊎ IsStopLine lines meant
+  pub explained : IsExplanation A net named names lines meant
+      ⊎ (IsStopLine lines × (meant ≡ Usage))
   pub printed : IsPrinted old new lines meant status

@@ -3,7 +3,7 @@ use Rattle.std.specs.Prelude.{◌≡◌, ℕ, List, codes, Option, Some, ◌⊎�
 use Rattle.std.specs.declared.vec.Vec.{Vec}
 use Rattle.label_plan.specs.Labelling.{IsLabelled}
 use Rattle.label_plan.specs.Lines.{lines_without_labels}
-use Rattle.plan_answers.specs.Networks.{IsFaultLine, IsStopLine}
+use Rattle.plan_answers.specs.Networks.{SaysNoAnswer, IsStopLine}
 use Rattle.program_text.specs.Plans.{AreRead}
 use Rattle.program_text.specs.Lines.{line}
 use Rattle.program_text.specs.Output.{IsPrinted}
@@ -29,7 +29,7 @@ IsTextOrNone A net named lines status = (IsLabelledPlan A net named lines × (st
 abbrev pub AreLabels : (A : Type 0) → Option (List ℕ) → (List ℕ → Option (List ℕ)) → List ℕ → Status
     → Type 0
 AreLabels A net named lines status = IsTextOrNone A net named lines status
-    ⊎ (IsFaultLine A net named lines status ⊎ IsStopLine lines status)
+    ⊎ (SaysNoAnswer A net named lines × (status ≡ Usage))
 
 -- all that `label` does to a writer, and its status
 pub record PrintsLabels (A : Type 0) (net : Option (List ℕ)) (named : List ℕ → Option (List ℕ))
@@ -52,4 +52,4 @@ abbrev pub PrintsFreshLabels : (A : Type 0) → Option (List ℕ) → (List ℕ 
 PrintsFreshLabels A net named old new status =
     ((text : Vec ℕ A) × IsWithoutLabels net text
     × PrintsLabels A (Some text.items) named old new status)
-    ⊎ ((lines : List ℕ) × IsStopLine lines Usage × IsPrinted old new lines Usage status)
+    ⊎ ((lines : List ℕ) × IsStopLine lines × IsPrinted old new lines Usage status)
