@@ -4,6 +4,7 @@ pub mod Found
 pub mod LinesRead
 pub mod Numbering
 pub mod OneAddition
+pub mod OneOutput
 pub mod OnePlan
 pub mod OneRefusal
 pub mod OneRelay

@@ -1,6 +1,5 @@
 -- That a text describes one relay, or has one first fault, and never both.
-use Rattle.std.proofs.Common.{◌≡◌, ◌∙◌, ℕ, List, [], ◌∷◌, ◌++◌, codes, map, refl, sym, ap, subst, inl, inr}
-use Rattle.std.specs.List.{AllZip}
+use Rattle.std.proofs.Common.{◌≡◌, ◌∙◌, ℕ, List, [], ◌∷◌, ◌++◌, codes, map, filter, sym, ap, subst, inl, inr}
 use Rattle.conf_text.specs.Trees.{Tree}
 use Rattle.conf_text.specs.Grammar.{HasFault as HasTextFault}
 use Rattle.conf_text.specs.declared.fault.ConfFault.{ConfFault}
@@ -8,7 +7,7 @@ use Rattle.conf_text.proofs.Whole.{one_reading, faultless}
 use Rattle.tag_pattern.specs.Items.{Item}
 use Rattle.tag_pattern.specs.Grammar.{plain_patterns}
 use Rattle.tag_pattern.proofs.SlotCuts.{slots_unique}
-use Rattle.relay_conf.specs.Elements.{heading_of, children_of}
+use Rattle.relay_conf.specs.Elements.{heading_of, children_of, is_named}
 use Rattle.relay_conf.specs.Examined.{words_of}
 use Rattle.relay_conf.specs.Faults.{all_found}
 use Rattle.relay_conf.specs.Findings.{Finding, a_fault, a_pattern, Passes, Stands, AllPass, FirstStands}
@@ -16,11 +15,12 @@ use Rattle.relay_conf.specs.declared.fault.RelayFault.{RelayFault}
 use Rattle.relay_conf.specs.declared.relay.MatchRule.{MatchRule}
 use Rattle.relay_conf.specs.declared.relay.Relay.{Relay}
 use Rattle.relay_conf.specs.declared.relay.Scope.{Scope}
-use Rattle.relay_conf.specs.Meaning.{numbered}
+use Rattle.relay_conf.specs.Meaning.{numbered, outputs_in}
 use Rattle.relay_conf.specs.Relays.{AreOfWord, AreOfWords, IsMatchOf, AreMatchesOf, IsScopeOf, AreScopesOf, IsRelayOf}
 use Rattle.plan_lines.specs.Faults.{HasNoPattern, HasRelayFault}
 use Rattle.plan_lines.specs.Plans.{IsRelayOfText}
-use Rattle.plan_lines.specs.Meanings.{match_view, scope_view, conf_view}
+use Rattle.plan_lines.specs.Meanings.{source_view, output_view, match_view, scope_view, conf_view}
+use Rattle.plan_lines.proofs.OneOutput.{same_all, same_source, same_output}
 
 -- a word stands for one list of plain patterns
 of_one_word : (word : List ℕ) (ps qs : List (List Item)) → AreOfWord word ps → AreOfWord word qs → ps ≡ qs
@@ -38,22 +38,11 @@ words_or_none [] ps h none = none
 words_or_none (word ∷ words) ps (front, rest, parts, (slots, is, plains), more) (inl none) = none slots is
 words_or_none (word ∷ words) ps (front, rest, parts, one, more) (inr none) = words_or_none words rest more none
 
--- what is the same of each pair is the same of all
-same_all : {P X Y Z : Type 0} (R : P → X → Type 0) (S : P → Y → Type 0) (f : X → Z) (g : Y → Z) → ((p : P) (x : X) (y : Y) → R p x → S p y → f x ≡ g y)
-    → (ps : List P) (xs : List X) (ys : List Y) → AllZip R ps xs → AllZip S ps ys → map f xs ≡ map g ys
-same_all R S f g same [] [] [] h k = refl
-same_all R S f g same [] [] (y ∷ ys) h k = absurd k
-same_all R S f g same [] (x ∷ xs) ys h k = absurd h
-same_all R S f g same (p ∷ ps) [] ys h k = absurd h
-same_all R S f g same (p ∷ ps) (x ∷ xs) [] h k = absurd k
-same_all R S f g same (p ∷ ps) (x ∷ xs) (y ∷ ys) h k =
-    ap (λ z. z ∷ map f xs) (same p x y h.0 k.0) ∙ ap (λ zs. g y ∷ zs) (same_all R S f g same ps xs ys h.1 k.1)
-
 module _ {A B : Type 0} (elements : List Tree) where
   same_match : (p : ℕ × Tree) (r : MatchRule A) (s : MatchRule B) → IsMatchOf elements p.0 p.1 r → IsMatchOf elements p.0 p.1 s → match_view r ≡ match_view s
   same_match p r s h k =
       let patterns = of_words (words_of (heading_of p.1).argument) r.patterns.items s.patterns.items h.patterns k.patterns in
-      let outputs = h.outputs ∙ sym k.outputs in
+      let outputs = same_all _ _ output_view output_view (same_output elements) (outputs_in p.0 p.1) r.outputs.items s.outputs.items h.outputs k.outputs in
       let line = h.line ∙ sym k.line in
       λ i. record { patterns = patterns i; outputs = outputs i; line = line i }
 
@@ -75,7 +64,7 @@ module _ {A B : Type 0} (elements : List Tree) where
       let name = h.main_name ∙ sym k.main_name in
       let matches = same_matches 0 elements h.main.matches.items k.main.matches.items h.main_matches k.main_matches in
       let labels = same_scopes h.labelled k.labelled h.labels k.labels in
-      let sources = h.sources ∙ sym k.sources in
+      let sources = same_all _ _ source_view source_view (same_source elements) (filter (is_named (codes "source")) elements) r.sources.items s.sources.items h.sources k.sources in
       let scopes = ap (map scope_view) h.scopes ∙ ((λ i. record { name = name i; matches = matches i } ∷ labels i) ∙ sym (ap (map scope_view) k.scopes)) in
       λ i. record { sources = sources i; scopes = scopes i }
 

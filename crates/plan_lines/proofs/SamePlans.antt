@@ -2,12 +2,11 @@
 use Rattle.std.proofs.Common.{◌≡◌, ◌∙◌, ℕ, List, length, map, slice_get, sym, ap}
 use Rattle.std.specs.Option.{option_and_then}
 use Rattle.std.proofs.lemmas.List.{length-map}
-use Rattle.relay_conf.specs.Views.{source_view}
 use Rattle.relay_net.specs.Network.{place_among}
 use Rattle.loss_rules.specs.Breaks.{Subject}
 use Rattle.plan_lines.specs.Faults.{NoSource, NoScope, NoMatch, NamesNone, OfItsConf, Refuses}
 use Rattle.plan_lines.specs.Forms.{LineForm, a_relay, a_client, a_label, a_reach}
-use Rattle.plan_lines.specs.Meanings.{match_view, relay_view, plan_view}
+use Rattle.plan_lines.specs.Meanings.{source_view, match_view, relay_view, plan_view}
 use Rattle.plan_lines.specs.Plans.{scope_at}
 use Rattle.plan_lines.specs.declared.error.PlanError.{PlanError}
 use Rattle.plan_lines.specs.declared.error.PlanError.TheVariants as error

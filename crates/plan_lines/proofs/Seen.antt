@@ -6,14 +6,12 @@ use Rattle.std.specs.Option.{option_and_then}
 use Rattle.std.specs.Str.{bytes_eq}
 use Rattle.std.proofs.lemmas.List.{length-map}
 use Rattle.std.proofs.lemmas.Option.{none-some, slice_get-map}
-use Rattle.relay_conf.specs.Meaning.{SourceMeaning}
-use Rattle.relay_conf.specs.Views.{source_view}
 use Rattle.relay_conf.specs.declared.relay.Scope.{Scope}
 use Rattle.relay_net.specs.Network.{Network, place_among, node_of, source_of_port}
 use Rattle.relay_net.specs.declared.node.Node.{Node}
 use Rattle.loss_rules.specs.Sites.{rule_at}
 use Rattle.plan_lines.specs.Plans.{scope_name, scope_of, scope_at}
-use Rattle.plan_lines.specs.Meanings.{MatchMeaning, RelayMeaning, match_view, scope_view, relay_view}
+use Rattle.plan_lines.specs.Meanings.{SourceMeaning, MatchMeaning, RelayMeaning, source_view, match_view, scope_view, relay_view}
 
 -- places and what is found, in a list whose elements are seen otherwise
 

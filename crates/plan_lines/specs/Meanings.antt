@@ -1,11 +1,21 @@
 -- What a plan says, without where it lies in memory.
-use Rattle.std.specs.Prelude.{ℕ, List, map, string_bytes}
+use Rattle.std.specs.Prelude.{ℕ, Bool, List, map, Option, option_map, string_bytes}
 use Rattle.tag_pattern.specs.Items.{Item}
-use Rattle.relay_conf.specs.Meaning.{SourceMeaning, OutputMeaning}
-use Rattle.relay_conf.specs.Views.{source_view, output_view}
+use Rattle.retry_waits.specs.declared.settings.RetrySettings.{RetrySettings}
+use Rattle.relay_conf.specs.BufferSection.{kind_view}
+use Rattle.relay_conf.specs.declared.buffer.BufferSettings.{BufferSettings}
+use Rattle.relay_conf.specs.declared.buffer.FlushMode.{FlushMode}
+use Rattle.relay_conf.specs.declared.buffer.OverflowAction.{OverflowAction}
+use Rattle.relay_conf.specs.declared.output.ForwardSettings.{ForwardSettings}
+use Rattle.relay_conf.specs.declared.output.FileSettings.{FileSettings}
+use Rattle.relay_conf.specs.declared.output.Server.{Server}
+use Rattle.relay_conf.specs.declared.output.Output.{Output}
+use Rattle.relay_conf.specs.declared.output.Output.TheVariants as output
 use Rattle.relay_conf.specs.declared.relay.MatchRule.{MatchRule}
 use Rattle.relay_conf.specs.declared.relay.Relay.{Relay}
 use Rattle.relay_conf.specs.declared.relay.Scope.{Scope}
+use Rattle.relay_conf.specs.declared.relay.Security.{Security}
+use Rattle.relay_conf.specs.declared.relay.Source.{Source}
 use Rattle.relay_net.specs.declared.node.Client.{Client}
 use Rattle.relay_net.specs.declared.node.Node.{Node}
 use Rattle.loss_rules.specs.Breaks.{Subject}
@@ -13,6 +23,59 @@ use Rattle.loss_rules.specs.declared.label.Duty.{Duty}
 use Rattle.loss_rules.specs.declared.label.Label.{Label}
 use Rattle.loss_rules.specs.declared.label.Reach.{Reach}
 use Rattle.loss_rules.specs.declared.label.RelayLine.{RelayLine}
+
+-- what a security section says
+pub record SecurityMeaning : Type 0 where
+  pub self_hostname : List ℕ
+  pub shared_key : List ℕ
+
+-- what a source says
+pub record SourceMeaning : Type 0 where
+  pub port : ℕ
+  pub bind : List ℕ
+  pub label : ℕ
+  pub prefix : Option (List ℕ)
+  pub security : Option SecurityMeaning
+  pub line : ℕ
+
+-- what a server says
+pub record ServerMeaning : Type 0 where
+  pub host : List ℕ
+  pub port : ℕ
+  pub line : ℕ
+
+-- what a buffer says; without a path its chunks are in memory
+pub record BufferMeaning : Type 0 where
+  pub path : Option (List ℕ)
+  pub flush_mode : FlushMode
+  pub flush_interval : ℕ
+  pub flush_thread_count : ℕ
+  pub retry : RetrySettings
+  pub overflow_action : OverflowAction
+  pub chunk_limit_size : ℕ
+  pub total_limit_size : ℕ
+
+-- what a forward output says
+pub record ForwardMeaning : Type 0 where
+  pub servers : List ServerMeaning
+  pub require_ack_response : Bool
+  pub ack_response_timeout : ℕ
+  pub security : Option SecurityMeaning
+  pub buffer : BufferMeaning
+  pub number : ℕ
+
+-- what a file output says
+pub record FileMeaning : Type 0 where
+  pub path : List ℕ
+  pub buffer : BufferMeaning
+  pub number : ℕ
+
+-- what an output says, with its line
+pub data OutputMeaning : Type 0 where
+  to_nowhere : ℕ → OutputMeaning
+  to_scope : ℕ → ℕ → OutputMeaning
+  to_relays : ForwardMeaning → ℕ → OutputMeaning
+  to_sink : FileMeaning → ℕ → OutputMeaning
 
 -- what a match says: its patterns with their groups written out, its outputs and its line
 pub record MatchMeaning : Type 0 where
@@ -71,6 +134,67 @@ pub record PlanMeaning : Type 0 where
   pub labels : List LabelMeaning
   pub reaches : List ReachMeaning
   pub duty : Duty
+
+-- a security section
+abbrev pub security_view : {A : Type 0} → Security A → SecurityMeaning
+security_view s = record {
+  self_hostname = string_bytes s.self_hostname;
+  shared_key = string_bytes s.shared_key;
+}
+
+-- a source
+abbrev pub source_view : {A : Type 0} → Source A → SourceMeaning
+source_view s = record {
+  port = s.port;
+  bind = string_bytes s.bind;
+  label = s.label.0;
+  prefix = s.prefix;
+  security = option_map security_view s.security;
+  line = s.line;
+}
+
+-- a server
+abbrev pub server_view : {A : Type 0} → Server A → ServerMeaning
+server_view s = record { host = string_bytes s.host; port = s.port; line = s.line }
+
+-- a buffer
+abbrev pub buffer_view : {A : Type 0} → BufferSettings A → BufferMeaning
+buffer_view b = record {
+  path = kind_view b.kind;
+  flush_mode = b.flush_mode;
+  flush_interval = b.flush_interval;
+  flush_thread_count = b.flush_thread_count;
+  retry = b.retry;
+  overflow_action = b.overflow_action;
+  chunk_limit_size = b.chunk_limit_size;
+  total_limit_size = b.total_limit_size;
+}
+
+-- a forward output
+abbrev pub forward_view : {A : Type 0} → ForwardSettings A → ForwardMeaning
+forward_view f = record {
+  servers = map server_view f.servers.items;
+  require_ack_response = f.require_ack_response;
+  ack_response_timeout = f.ack_response_timeout;
+  security = option_map security_view f.security;
+  buffer = buffer_view f.buffer;
+  number = f.number.0;
+}
+
+-- a file output
+abbrev pub file_view : {A : Type 0} → FileSettings A → FileMeaning
+file_view f = record {
+  path = string_bytes f.path;
+  buffer = buffer_view f.buffer;
+  number = f.number.0;
+}
+
+-- an output
+abbrev pub output_view : {A : Type 0} → Output A → OutputMeaning
+output_view (output.Null line) = to_nowhere line
+output_view (output.Relabel target line) = to_scope target.0 line
+output_view (output.Forward settings line) = to_relays (forward_view settings) line
+output_view (output.File settings line) = to_sink (file_view settings) line
 
 -- a match
 abbrev pub match_view : {A : Type 0} → MatchRule A → MatchMeaning

@@ -1,5 +1,5 @@
 -- That no two outputs share a buffer.
-use Rattle.std.proofs.Common.{◌≡◌, ◌∙◌, ℕ, zero, suc, ◌+◌, ◌<◌, ◌≤◌, ◌||◌, Bool, true, false, eqb, List, [], ◌∷◌, ◌++◌, map, Option, Some, None, slice_get, refl, sym, ap, subst, arith, if◌then◌else◌}
+use Rattle.std.proofs.Common.{◌≡◌, ℕ, zero, suc, ◌+◌, ◌<◌, ◌≤◌, ◌||◌, Bool, true, false, eqb, List, [], ◌∷◌, ◌++◌, Option, Some, None, slice_get, refl, sym, ap, subst, arith, if◌then◌else◌}
 use Rattle.std.specs.Prelude.{codes}
 use Rattle.std.specs.List.{flat_map, AllZip}
 use Rattle.std.specs.Option.{option_and_then}
@@ -7,36 +7,32 @@ use Rattle.std.specs.Str.{bytes_eq}
 use Rattle.std.proofs.lemmas.Bool.{eq-eqb, eqb-true, false≢true}
 use Rattle.std.proofs.lemmas.Slice.Eq.{bytes_eq-Decides}
 use Rattle.conf_text.specs.Trees.{Heading, Setting, Tree, tree, Trees, no_trees, more_trees}
-use Rattle.relay_conf.specs.Elements.{heading_of, children_of, tree_list, is_named}
-use Rattle.relay_conf.specs.declared.form.OutputType.{OutputType}
-use Rattle.relay_conf.specs.declared.form.OutputType.TheVariants as outputs
+use Rattle.relay_conf.specs.Described.{IsOutputOf}
+use Rattle.relay_conf.specs.Elements.{heading_of, settings_of, children_of, tree_list, is_named}
 use Rattle.relay_conf.specs.declared.output.Output.{Output}
 use Rattle.relay_conf.specs.declared.output.Output.TheVariants as output
 use Rattle.relay_conf.specs.declared.relay.MatchRule.{MatchRule}
 use Rattle.relay_conf.specs.declared.relay.Relay.{Relay}
 use Rattle.relay_conf.specs.declared.relay.Scope.{Scope}
 use Rattle.relay_conf.specs.Buffers.{buffer_number, output_in_relay, HaveOwnBuffers}
-use Rattle.relay_conf.specs.Meaning.{OutputMeaning, to_nowhere, to_scope, to_relays, to_sink, output_by, output_of, kind_of, is_buffered, has_buffer, one_if, is_copy, outputs_of, numbered, tree_buffers, trees_buffers}
+use Rattle.relay_conf.specs.Meaning.{kind_of, is_buffered, has_buffer, one_if, is_copy, outputs_in, numbered, tree_buffers, trees_buffers}
 use Rattle.relay_conf.specs.Relays.{IsMatchOf, IsScopeOf, IsRelayOf}
-use Rattle.relay_conf.specs.Views.{output_view}
 
 -- one where the buffer is this one, else none
 abbrev is_it : Option ℕ → ℕ → ℕ
 is_it None b = 0
 is_it (Some n) b = one_if (eqb n b)
 
--- the number of the buffer that an output says
-abbrev number_in : OutputMeaning → Option ℕ
-number_in (to_nowhere line) = None
-number_in (to_scope target line) = None
-number_in (to_relays forward line) = Some forward.number
-number_in (to_sink file line) = Some file.number
+-- the number of the buffer of an output, by its element and how many buffers stand before it
+abbrev number_at : ℕ × Tree → Option ℕ
+number_at p = if is_buffered (kind_of (settings_of p.1)) then Some p.0 else None
+
+-- how many of the elements are outputs that have this buffer
+abbrev said : ℕ → List (ℕ × Tree) → ℕ
+said b [] = 0
+said b (p ∷ ps) = is_it (number_at p) b + said b ps
 
 -- how many of the outputs have this buffer
-abbrev said : ℕ → List OutputMeaning → ℕ
-said b [] = 0
-said b (m ∷ ms) = is_it (number_in m) b + said b ms
-
 abbrev held : {A : Type 0} → ℕ → List (Output A) → ℕ
 held b [] = 0
 held b (o ∷ os) = is_it (buffer_number o) b + held b os
@@ -59,7 +55,7 @@ joined zero d n m k b h g low high = subst (λ x. AtMostOne x n k b) (omega arit
 joined (suc c) zero n m k b h g low high = subst (λ x. AtMostOne x n k b) (omega arith) (wider (suc c) n m n k b h (omega arith) high)
 joined (suc c) (suc d) n m k b h g low high = let under = h.below (omega arith) in let over = g.above (omega arith) in absurd (omega (arith, under, over))
 
-said-append : (b : ℕ) (xs ys : List OutputMeaning) → said b (xs ++ ys) ≡ said b xs + said b ys
+said-append : (b : ℕ) (xs ys : List (ℕ × Tree)) → said b (xs ++ ys) ≡ said b xs + said b ys
 said-append b [] ys = omega arith
 said-append b (x ∷ xs) ys = let rest = said-append b xs ys in omega (arith, rest)
 
@@ -72,20 +68,13 @@ own_number : (n b : ℕ) (t : Bool) → eqb n b ≡ t → AtMostOne (one_if t) n
 own_number n b true e = let same = eqb-true n b e in record { one = omega arith; above = λ some. (omega (arith, same)); below = λ some. (omega (arith, same)) }
 own_number n b false e = none_there n (n + 1) b
 
-buffered : (b n : ℕ) (low : ℕ) → AtMostOne (is_it (Some n) b + 0) n (n + 1) b
-buffered b n low = subst (λ x. AtMostOne x n (n + 1) b) (omega arith) (own_number n b (eqb n b) refl)
-
-nothing_said : (b n k : ℕ) → AtMostOne (0 + 0) n k b
-nothing_said b n k = none_there n k b
-
 -- an output has the buffer of its number, where its type has one
-one_output : (b n : ℕ) (kind : Option OutputType) (all : List Tree) (t : Tree) → AtMostOne (said b (output_by kind all n t ∷ [])) n (n + one_if (is_buffered kind)) b
-one_output b n None all t = nothing_said b n _
-one_output b n (Some outputs.Forward) all t = buffered b n n
-one_output b n (Some outputs.File) all t = buffered b n n
-one_output b n (Some outputs.Copy) all t = nothing_said b n _
-one_output b n (Some outputs.Relabel) all t = nothing_said b n _
-one_output b n (Some outputs.Null) all t = nothing_said b n _
+one_output : (b n : ℕ) (t : Tree) → AtMostOne (said b ((n, t) ∷ [])) n (n + one_if (is_buffered (kind_of (settings_of t)))) b
+one_output b n t = by (is_buffered (kind_of (settings_of t)))
+  where
+    by : (x : Bool) → AtMostOne (is_it (if x then Some n else None) b + 0) n (n + one_if x) b
+    by true = subst (λ c. AtMostOne c n (n + 1) b) (omega arith) (own_number n b (eqb n b) refl)
+    by false = none_there n _ b
 
 -- how many buffers are in some elements
 abbrev buffers_among : List Tree → ℕ
@@ -115,108 +104,110 @@ store_or : (h : Heading) → bytes_eq h.name (codes "store") ≡ true → (bytes
 store_or h e = let same = named_so (codes "store") h e in rw same refl
 
 -- the buffer of one output is among those of its element
-in_its_tree : (b n : ℕ) (all : List Tree) (name : List ℕ) (t : Tree) → is_named name t ≡ true → bytes_eq name (codes "system") ≡ false
-    → (bytes_eq name (codes "match") || bytes_eq name (codes "store")) ≡ true → AtMostOne (said b (output_of all n t ∷ [])) n (n + tree_buffers t) b
-in_its_tree b n all name (tree h s kids) e other is =
+in_its_tree : (b n : ℕ) (name : List ℕ) (t : Tree) → is_named name t ≡ true → bytes_eq name (codes "system") ≡ false
+    → (bytes_eq name (codes "match") || bytes_eq name (codes "store")) ≡ true → AtMostOne (said b ((n, t) ∷ [])) n (n + tree_buffers t) b
+in_its_tree b n name (tree h s kids) e other is =
     let full = counted name h s kids e other in
     let mine : has_buffer h s ≡ is_buffered (kind_of s) = has_its h s (rw (named_so name h e) is) in
     let at_least : one_if (is_buffered (kind_of s)) ≤ tree_buffers (tree h s kids) = rw (full, mine) (omega arith) in
-    wider _ n _ n _ b (one_output b n (kind_of s) all (tree h s kids)) (omega arith) (omega (arith, at_least))
+    wider _ n _ n _ b (one_output b n (tree h s kids)) (omega arith) (omega (arith, at_least))
 
 -- the buffers of stores
-in_stores : (b n : ℕ) (all ts : List Tree) → AtMostOne (said b (map (λ p. output_of all p.0 p.1) (numbered (codes "store") n ts))) n (n + buffers_among ts) b
-in_stores b n all [] = none_there n _ b
-in_stores b n all (t ∷ ts) = by (wider _ _ _ _ _ b (in_stores b (n + tree_buffers t) all ts) (omega arith) (omega arith)) (is_named (codes "store") t) refl
+in_stores : (b n : ℕ) (ts : List Tree) → AtMostOne (said b (numbered (codes "store") n ts)) n (n + buffers_among ts) b
+in_stores b n [] = none_there n _ b
+in_stores b n (t ∷ ts) = by (wider _ _ _ _ _ b (in_stores b (n + tree_buffers t) ts) (omega arith) (omega arith)) (is_named (codes "store") t) refl
   where
-    by : AtMostOne (said b (map (λ p. output_of all p.0 p.1) (numbered (codes "store") (n + tree_buffers t) ts))) (n + tree_buffers t) (n + (tree_buffers t + buffers_among ts)) b
+    by : AtMostOne (said b (numbered (codes "store") (n + tree_buffers t) ts)) (n + tree_buffers t) (n + (tree_buffers t + buffers_among ts)) b
         → (x : Bool) → is_named (codes "store") t ≡ x
-        → AtMostOne (said b (map (λ p. output_of all p.0 p.1) (if x then (n, t) ∷ numbered (codes "store") (n + tree_buffers t) ts else numbered (codes "store") (n + tree_buffers t) ts))) n (n + (tree_buffers t + buffers_among ts)) b
+        → AtMostOne (said b (if x then (n, t) ∷ numbered (codes "store") (n + tree_buffers t) ts else numbered (codes "store") (n + tree_buffers t) ts)) n (n + (tree_buffers t + buffers_among ts)) b
     by later true e = subst (λ c. AtMostOne c n (n + (tree_buffers t + buffers_among ts)) b) (omega arith)
-        (joined _ _ n (n + tree_buffers t) _ b (in_its_tree b n all (codes "store") t e refl refl) later (omega arith) (omega arith))
+        (joined _ _ n (n + tree_buffers t) _ b (in_its_tree b n (codes "store") t e refl refl) later (omega arith) (omega arith))
     by later false e = wider _ _ _ _ _ b later (omega arith) (omega arith)
 
 -- the buffers of a match
-in_match : (b n : ℕ) (all : List Tree) (t : Tree) → is_named (codes "match") t ≡ true → AtMostOne (said b (outputs_of all n t)) n (n + tree_buffers t) b
-in_match b n all (tree h s kids) e = by (is_copy (kind_of s)) refl
+in_match : (b n : ℕ) (t : Tree) → is_named (codes "match") t ≡ true → AtMostOne (said b (outputs_in n t)) n (n + tree_buffers t) b
+in_match b n (tree h s kids) e = by (is_copy (kind_of s)) refl
   where
     by : (x : Bool) → is_copy (kind_of s) ≡ x
-        → AtMostOne (said b (if x then map (λ p. output_of all p.0 p.1) (numbered (codes "store") n (tree_list kids)) else output_of all n (tree h s kids) ∷ [])) n (n + tree_buffers (tree h s kids)) b
-    by true copies = let full = counted (codes "match") h s kids e refl in wider _ _ _ _ _ b (in_stores b n all (tree_list kids)) (omega arith) (omega (arith, full))
-    by false single = in_its_tree b n all (codes "match") (tree h s kids) e refl refl
+        → AtMostOne (said b (if x then numbered (codes "store") n (tree_list kids) else (n, tree h s kids) ∷ [])) n (n + tree_buffers (tree h s kids)) b
+    by true copies = let full = counted (codes "match") h s kids e refl in wider _ _ _ _ _ b (in_stores b n (tree_list kids)) (omega arith) (omega (arith, full))
+    by false single = in_its_tree b n (codes "match") (tree h s kids) e refl refl
 
--- what the matches among some elements say
-abbrev match_outputs : List Tree → ℕ → List Tree → List OutputMeaning
-match_outputs all n ts = flat_map (λ p. outputs_of all p.0 p.1) (numbered (codes "match") n ts)
+-- the outputs of the matches among some elements
+abbrev match_outputs : ℕ → List Tree → List (ℕ × Tree)
+match_outputs n ts = flat_map (λ p. outputs_in p.0 p.1) (numbered (codes "match") n ts)
 
-in_matches : (b n : ℕ) (all ts : List Tree) → AtMostOne (said b (match_outputs all n ts)) n (n + buffers_among ts) b
-in_matches b n all [] = none_there n _ b
-in_matches b n all (t ∷ ts) = by (wider _ _ _ _ _ b (in_matches b (n + tree_buffers t) all ts) (omega arith) (omega arith)) (is_named (codes "match") t) refl
+in_matches : (b n : ℕ) (ts : List Tree) → AtMostOne (said b (match_outputs n ts)) n (n + buffers_among ts) b
+in_matches b n [] = none_there n _ b
+in_matches b n (t ∷ ts) = by (wider _ _ _ _ _ b (in_matches b (n + tree_buffers t) ts) (omega arith) (omega arith)) (is_named (codes "match") t) refl
   where
-    by : AtMostOne (said b (match_outputs all (n + tree_buffers t) ts)) (n + tree_buffers t) (n + (tree_buffers t + buffers_among ts)) b
+    by : AtMostOne (said b (match_outputs (n + tree_buffers t) ts)) (n + tree_buffers t) (n + (tree_buffers t + buffers_among ts)) b
         → (x : Bool) → is_named (codes "match") t ≡ x
-        → AtMostOne (said b (flat_map (λ p. outputs_of all p.0 p.1) (if x then (n, t) ∷ numbered (codes "match") (n + tree_buffers t) ts else numbered (codes "match") (n + tree_buffers t) ts))) n (n + (tree_buffers t + buffers_among ts)) b
-    by later true e = rw (said-append b (outputs_of all n t) (match_outputs all (n + tree_buffers t) ts))
-        (joined _ _ n (n + tree_buffers t) _ b (in_match b n all t e) later (omega arith) (omega arith))
+        → AtMostOne (said b (flat_map (λ p. outputs_in p.0 p.1) (if x then (n, t) ∷ numbered (codes "match") (n + tree_buffers t) ts else numbered (codes "match") (n + tree_buffers t) ts))) n (n + (tree_buffers t + buffers_among ts)) b
+    by later true e = rw (said-append b (outputs_in n t) (match_outputs (n + tree_buffers t) ts))
+        (joined _ _ n (n + tree_buffers t) _ b (in_match b n t e) later (omega arith) (omega arith))
     by later false e = wider _ _ _ _ _ b later (omega arith) (omega arith)
 
--- what the labels among some elements say
-abbrev label_outputs : List Tree → ℕ → List Tree → List OutputMeaning
-label_outputs all n ts = flat_map (λ p. match_outputs all p.0 (children_of p.1)) (numbered (codes "label") n ts)
+-- those of the labels among some elements
+abbrev label_outputs : ℕ → List Tree → List (ℕ × Tree)
+label_outputs n ts = flat_map (λ p. match_outputs p.0 (children_of p.1)) (numbered (codes "label") n ts)
 
-in_label : (b n : ℕ) (all : List Tree) (t : Tree) → is_named (codes "label") t ≡ true → AtMostOne (said b (match_outputs all n (children_of t))) n (n + tree_buffers t) b
-in_label b n all (tree h s kids) e = let full = counted (codes "label") h s kids e refl in wider _ _ _ _ _ b (in_matches b n all (tree_list kids)) (omega arith) (omega (arith, full))
+in_label : (b n : ℕ) (t : Tree) → is_named (codes "label") t ≡ true → AtMostOne (said b (match_outputs n (children_of t))) n (n + tree_buffers t) b
+in_label b n (tree h s kids) e = let full = counted (codes "label") h s kids e refl in wider _ _ _ _ _ b (in_matches b n (tree_list kids)) (omega arith) (omega (arith, full))
 
 -- matches inside and outside labels share no buffer
-in_all : (b n : ℕ) (all ts : List Tree) → AtMostOne (said b (match_outputs all n ts) + said b (label_outputs all n ts)) n (n + buffers_among ts) b
-in_all b n all [] = none_there n _ b
-in_all b n all (t ∷ ts) = by (wider _ _ _ _ _ b (in_all b (n + tree_buffers t) all ts) (omega arith) (omega arith)) (is_named (codes "match") t) (is_named (codes "label") t) refl refl
+in_all : (b n : ℕ) (ts : List Tree) → AtMostOne (said b (match_outputs n ts) + said b (label_outputs n ts)) n (n + buffers_among ts) b
+in_all b n [] = none_there n _ b
+in_all b n (t ∷ ts) = by (wider _ _ _ _ _ b (in_all b (n + tree_buffers t) ts) (omega arith) (omega arith)) (is_named (codes "match") t) (is_named (codes "label") t) refl refl
   where
-    by : AtMostOne (said b (match_outputs all (n + tree_buffers t) ts) + said b (label_outputs all (n + tree_buffers t) ts)) (n + tree_buffers t) (n + (tree_buffers t + buffers_among ts)) b
+    by : AtMostOne (said b (match_outputs (n + tree_buffers t) ts) + said b (label_outputs (n + tree_buffers t) ts)) (n + tree_buffers t) (n + (tree_buffers t + buffers_among ts)) b
         → (x y : Bool) → is_named (codes "match") t ≡ x → is_named (codes "label") t ≡ y
-        → AtMostOne (said b (flat_map (λ p. outputs_of all p.0 p.1) (if x then (n, t) ∷ numbered (codes "match") (n + tree_buffers t) ts else numbered (codes "match") (n + tree_buffers t) ts))
-        + said b (flat_map (λ p. match_outputs all p.0 (children_of p.1)) (if y then (n, t) ∷ numbered (codes "label") (n + tree_buffers t) ts else numbered (codes "label") (n + tree_buffers t) ts)))
+        → AtMostOne (said b (flat_map (λ p. outputs_in p.0 p.1) (if x then (n, t) ∷ numbered (codes "match") (n + tree_buffers t) ts else numbered (codes "match") (n + tree_buffers t) ts))
+        + said b (flat_map (λ p. match_outputs p.0 (children_of p.1)) (if y then (n, t) ∷ numbered (codes "label") (n + tree_buffers t) ts else numbered (codes "label") (n + tree_buffers t) ts)))
         n (n + (tree_buffers t + buffers_among ts)) b
     by later true true e f = absurd (false≢true (subst (λ name. bytes_eq name (codes "label") ≡ true) (named_so (codes "match") (heading_of t) e) f))
-    by later true false e f = rw (said-append b (outputs_of all n t) (match_outputs all (n + tree_buffers t) ts))
-        (subst (λ c. AtMostOne c n (n + (tree_buffers t + buffers_among ts)) b) (omega arith) (joined _ _ n (n + tree_buffers t) _ b (in_match b n all t e) later (omega arith) (omega arith)))
-    by later false true e f = rw (said-append b (match_outputs all n (children_of t)) (label_outputs all (n + tree_buffers t) ts))
-        (subst (λ c. AtMostOne c n (n + (tree_buffers t + buffers_among ts)) b) (omega arith) (joined _ _ n (n + tree_buffers t) _ b (in_label b n all t f) later (omega arith) (omega arith)))
+    by later true false e f = rw (said-append b (outputs_in n t) (match_outputs (n + tree_buffers t) ts))
+        (subst (λ c. AtMostOne c n (n + (tree_buffers t + buffers_among ts)) b) (omega arith) (joined _ _ n (n + tree_buffers t) _ b (in_match b n t e) later (omega arith) (omega arith)))
+    by later false true e f = rw (said-append b (match_outputs n (children_of t)) (label_outputs (n + tree_buffers t) ts))
+        (subst (λ c. AtMostOne c n (n + (tree_buffers t + buffers_among ts)) b) (omega arith) (joined _ _ n (n + tree_buffers t) _ b (in_label b n t f) later (omega arith) (omega arith)))
     by later false false e f = wider _ _ _ _ _ b later (omega arith) (omega arith)
 
 -- what is held is what is said
-same_number : {A : Type 0} (o : Output A) → buffer_number o ≡ number_in (output_view o)
-same_number (output.Null line) = refl
-same_number (output.Relabel target line) = refl
-same_number (output.Forward settings line) = refl
-same_number (output.File settings line) = refl
+same_number : {A : Type 0} (all : List Tree) (p : ℕ × Tree) (o : Output A) → IsOutputOf all p.0 p.1 o → buffer_number o ≡ number_at p
+same_number all p (output.Null line) h = rw h.0 refl
+same_number all p (output.Relabel target line) h = rw h.0 refl
+same_number all p (output.Forward settings line) h = rw h.0 (ap Some h.1.number)
+same_number all p (output.File settings line) h = rw h.0 (ap Some h.1.number)
 
-held_said : {A : Type 0} (b : ℕ) (os : List (Output A)) → held b os ≡ said b (map output_view os)
-held_said b [] = refl
-held_said b (o ∷ os) = let rest = held_said b os in let one = ap (λ n. is_it n b) (same_number o) in omega (arith, rest, one)
+held_said : {A : Type 0} (b : ℕ) (all : List Tree) (ps : List (ℕ × Tree)) (os : List (Output A)) → AllZip (λ p o. IsOutputOf all p.0 p.1 o) ps os → held b os ≡ said b ps
+held_said b all [] [] h = refl
+held_said b all [] (o ∷ os) h = absurd h
+held_said b all (p ∷ ps) [] h = absurd h
+held_said b all (p ∷ ps) (o ∷ os) h = let rest = held_said b all ps os h.1 in let one = ap (λ n. is_it n b) (same_number all p o h.0) in omega (arith, rest, one)
 
 held_matches : {A : Type 0} (b : ℕ) (all : List Tree) (ps : List (ℕ × Tree)) (rules : List (MatchRule A)) → AllZip (λ p rule. IsMatchOf all p.0 p.1 rule) ps rules
-    → held b (flat_map (λ rule. rule.outputs.items) rules) ≡ said b (flat_map (λ p. outputs_of all p.0 p.1) ps)
+    → held b (flat_map (λ rule. rule.outputs.items) rules) ≡ said b (flat_map (λ p. outputs_in p.0 p.1) ps)
 held_matches b all [] [] h = refl
 held_matches b all [] (rule ∷ rules) h = absurd h
 held_matches b all (p ∷ ps) [] h = absurd h
 held_matches b all (p ∷ ps) (rule ∷ rules) h =
-    let first = held_said b rule.outputs.items ∙ ap (said b) h.0.outputs in
+    let first = held_said b all (outputs_in p.0 p.1) rule.outputs.items h.0.outputs in
     let rest = held_matches b all ps rules h.1 in
-    rw (held-append b rule.outputs.items (flat_map (λ rule. rule.outputs.items) rules), said-append b (outputs_of all p.0 p.1) (flat_map (λ p. outputs_of all p.0 p.1) ps)) (omega (arith, first, rest))
+    rw (held-append b rule.outputs.items (flat_map (λ rule. rule.outputs.items) rules), said-append b (outputs_in p.0 p.1) (flat_map (λ p. outputs_in p.0 p.1) ps)) (omega (arith, first, rest))
 
 -- the outputs of a scope, in the order of its matches
 abbrev scope_outputs : {A : Type 0} → Scope A → List (Output A)
 scope_outputs scope = flat_map (λ rule. rule.outputs.items) scope.matches.items
 
 held_scopes : {A : Type 0} (b : ℕ) (all : List Tree) (ps : List (ℕ × Tree)) (scopes : List (Scope A)) → AllZip (λ p scope. IsScopeOf all p.0 p.1 scope) ps scopes
-    → held b (flat_map scope_outputs scopes) ≡ said b (flat_map (λ p. match_outputs all p.0 (children_of p.1)) ps)
+    → held b (flat_map scope_outputs scopes) ≡ said b (flat_map (λ p. match_outputs p.0 (children_of p.1)) ps)
 held_scopes b all [] [] h = refl
 held_scopes b all [] (scope ∷ scopes) h = absurd h
 held_scopes b all (p ∷ ps) [] h = absurd h
 held_scopes b all (p ∷ ps) (scope ∷ scopes) h =
     let first = held_matches b all (numbered (codes "match") p.0 (children_of p.1)) scope.matches.items h.0.matches in
     let rest = held_scopes b all ps scopes h.1 in
-    rw (held-append b (scope_outputs scope) (flat_map scope_outputs scopes), said-append b (match_outputs all p.0 (children_of p.1)) (flat_map (λ p. match_outputs all p.0 (children_of p.1)) ps)) (omega (arith, first, rest))
+    rw (held-append b (scope_outputs scope) (flat_map scope_outputs scopes), said-append b (match_outputs p.0 (children_of p.1)) (flat_map (λ p. match_outputs p.0 (children_of p.1)) ps)) (omega (arith, first, rest))
 
 -- the outputs of a relay, in the order of its scopes
 abbrev all_outputs : {A : Type 0} → Relay A → List (Output A)
@@ -226,7 +217,7 @@ held_once : {A : Type 0} (b : ℕ) (all : List Tree) (relay : Relay A) → IsRel
 held_once b all relay h =
     let main = held_matches b all (numbered (codes "match") 0 all) h.main.matches.items h.main_matches in
     let rest = held_scopes b all (numbered (codes "label") 0 all) h.labelled h.labels in
-    let few = (in_all b 0 all all).one in
+    let few = (in_all b 0 all).one in
     let parts = held-append b (scope_outputs h.main) (flat_map scope_outputs h.labelled) in
     rw (h.scopes, parts) (omega (arith, main, rest, few))
 

@@ -1,6 +1,7 @@
 -- The section of a buffer (Fluentd, "Config: Buffer Section"): its parameters, what their words mean,
--- and what a section says, where each value is that of its last line, or the default.
-use Rattle.std.specs.Prelude.{ℕ, ◌*◌, ◌^◌, ◌||◌, Bool, true, false, List, [], ◌∷◌, codes, Option, Some, None, unwrap_or, option_and_then, if◌then◌else◌, string_bytes}
+-- and the buffer that a section describes, where each value is that of its last line, or the
+-- default.
+use Rattle.std.specs.Prelude.{◌≡◌, ℕ, ◌*◌, ◌^◌, ◌||◌, Bool, true, false, List, [], ◌∷◌, codes, Option, Some, None, unwrap_or, option_and_then, if◌then◌else◌, string_bytes}
 use Rattle.std.specs.Option.{option_map_or}
 use Rattle.std.specs.Int.{is_in_range}
 use Rattle.std.specs.Str.{bytes_eq}
@@ -41,17 +42,6 @@ buffer_rows =
     ∷ row (codes "total_limit_size") form.Size
     ∷ []
 
--- what a buffer says; without a path its chunks are in memory
-pub record BufferMeaning : Type 0 where
-  pub path : Option (List ℕ)
-  pub flush_mode : FlushMode
-  pub flush_interval : ℕ
-  pub flush_thread_count : ℕ
-  pub retry : RetrySettings
-  pub overflow_action : OverflowAction
-  pub chunk_limit_size : ℕ
-  pub total_limit_size : ℕ
-
 -- the default acts as the interval, since tags alone tell chunks apart
 abbrev pub flush_mode_of : List ℕ → Option FlushMode
 flush_mode_of text = if bytes_eq text (codes "default") || bytes_eq text (codes "interval")
@@ -89,45 +79,36 @@ retry_of settings = record {
   forever = read_or boolean_of false (value_of (codes "retry_forever") settings);
 }
 
--- A buffer. In files a chunk may have 256 MB, and the buffer 64 GB; in memory 8 MB and 512 MB.
-abbrev pub buffer_of : List Setting → BufferMeaning
-buffer_of settings = record {
-  path = if has_files settings then Some (unwrap_or (value_of (codes "path") settings) [])
-      else None;
-  flush_mode = read_or flush_mode_of Interval (value_of (codes "flush_mode") settings);
-  flush_interval = read_or seconds_of 60 (value_of (codes "flush_interval") settings);
-  flush_thread_count = read_or threads_of 1 (value_of (codes "flush_thread_count") settings);
-  retry = retry_of settings;
-  overflow_action = read_or overflow_of ThrowException
-      (value_of (codes "overflow_action") settings);
-  chunk_limit_size = read_or size_of (if has_files settings then 256 * 1024 ^ 2 else 8 * 1024 ^ 2)
-      (value_of (codes "chunk_limit_size") settings);
-  total_limit_size = read_or size_of
-      (if has_files settings then 64 * 1024 ^ 3 else 512 * 1024 ^ 2)
-      (value_of (codes "total_limit_size") settings);
-}
-
--- the last buffer section, or all defaults where there is none
-abbrev pub buffer_in : List Tree → BufferMeaning
-buffer_in children = buffer_of (option_map_or settings_of (last_child (codes "buffer") children) [])
-
 -- the path of a buffer's files
 abbrev pub kind_view : {A : Type 0} → BufferKind A → Option (List ℕ)
 kind_view kind.Memory = None
 kind_view (kind.File path) = Some (string_bytes path)
 
--- a buffer
-abbrev pub buffer_view : {A : Type 0} → BufferSettings A → BufferMeaning
-buffer_view b = record {
-  path = kind_view b.kind;
-  flush_mode = b.flush_mode;
-  flush_interval = b.flush_interval;
-  flush_thread_count = b.flush_thread_count;
-  retry = b.retry;
-  overflow_action = b.overflow_action;
-  chunk_limit_size = b.chunk_limit_size;
-  total_limit_size = b.total_limit_size;
-}
+-- The buffer that these parameters describe. In files a chunk may have 256 MB, and the buffer 64 GB;
+-- in memory 8 MB and 512 MB.
+pub record IsBufferOf {A : Type 0} (settings : List Setting) (b : BufferSettings A) : Type 0 where
+  pub kind : kind_view b.kind ≡ (if has_files settings
+      then Some (unwrap_or (value_of (codes "path") settings) []) else None)
+  pub flush_mode : b.flush_mode
+      ≡ read_or flush_mode_of Interval (value_of (codes "flush_mode") settings)
+  pub flush_interval : b.flush_interval
+      ≡ read_or seconds_of 60 (value_of (codes "flush_interval") settings)
+  pub flush_thread_count : b.flush_thread_count
+      ≡ read_or threads_of 1 (value_of (codes "flush_thread_count") settings)
+  pub retry : b.retry ≡ retry_of settings
+  pub overflow_action : b.overflow_action
+      ≡ read_or overflow_of ThrowException (value_of (codes "overflow_action") settings)
+  pub chunk_limit_size : b.chunk_limit_size
+      ≡ read_or size_of (if has_files settings then 256 * 1024 ^ 2 else 8 * 1024 ^ 2)
+      (value_of (codes "chunk_limit_size") settings)
+  pub total_limit_size : b.total_limit_size
+      ≡ read_or size_of (if has_files settings then 64 * 1024 ^ 3 else 512 * 1024 ^ 2)
+      (value_of (codes "total_limit_size") settings)
+
+-- the buffer of the last buffer section, or one of defaults where there is none
+abbrev pub IsBufferIn : {A : Type 0} → List Tree → BufferSettings A → Type 0
+IsBufferIn children b =
+    IsBufferOf (option_map_or settings_of (last_child (codes "buffer") children) []) b
 
 -- a parameter
 abbrev pub said : (name value : List ℕ) → Setting

@@ -11,6 +11,6 @@ pub mod Labels
 pub mod Faults
 pub mod Targets
 pub mod Meaning
-pub mod Views
+pub mod Described
 pub mod Relays
 pub mod Buffers

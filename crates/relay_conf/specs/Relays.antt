@@ -1,5 +1,5 @@
 -- What a relay's configuration means as a whole.
-use Rattle.std.specs.Prelude.{◌≡◌, ℕ, List, [], ◌∷◌, ◌++◌, codes, map, filter, string_bytes}
+use Rattle.std.specs.Prelude.{◌≡◌, ℕ, List, [], ◌∷◌, ◌++◌, codes, filter, string_bytes}
 use Rattle.std.specs.List.{AllZip}
 use Rattle.conf_text.specs.Trees.{Tree}
 use Rattle.tag_pattern.specs.Items.{Item}
@@ -9,8 +9,8 @@ use Rattle.relay_conf.specs.declared.relay.Scope.{Scope}
 use Rattle.relay_conf.specs.declared.relay.MatchRule.{MatchRule}
 use Rattle.relay_conf.specs.Elements.{heading_of, children_of, is_named}
 use Rattle.relay_conf.specs.Examined.{words_of}
-use Rattle.relay_conf.specs.Meaning.{source_of, outputs_of, numbered}
-use Rattle.relay_conf.specs.Views.{source_view, output_view}
+use Rattle.relay_conf.specs.Meaning.{outputs_in, numbered}
+use Rattle.relay_conf.specs.Described.{IsSourceOf, IsOutputOf}
 
 -- the word is a pattern, and these are the plain patterns that it stands for
 abbrev pub AreOfWord : List ℕ → List (List Item) → Type 0
@@ -26,7 +26,7 @@ AreOfWords (word ∷ words) plains = (front : List (List Item)) × (rest : List 
 pub record IsMatchOf {A : Type 0} (elements : List Tree) (n : ℕ) (t : Tree)
     (rule : MatchRule A) : Type 0 where
   pub patterns : AreOfWords (words_of (heading_of t).argument) rule.patterns.items
-  pub outputs : map output_view rule.outputs.items ≡ outputs_of elements n t
+  pub outputs : AllZip (λ p o. IsOutputOf elements p.0 p.1 o) (outputs_in n t) rule.outputs.items
   pub line : rule.line ≡ (heading_of t).line
 
 -- the matches among some elements, before which n buffers stand
@@ -50,8 +50,8 @@ AreScopesOf elements n ts scopes = AllZip (λ p scope. IsScopeOf elements p.0 p.
 pub record IsRelayOf {A : Type 0} (elements : List Tree) (relay : Relay A) : Type 0 where
   pub main : Scope A
   pub labelled : List (Scope A)
-  pub sources : map source_view relay.sources.items ≡ map (source_of elements)
-      (filter (is_named (codes "source")) elements)
+  pub sources : AllZip (λ t source. IsSourceOf elements t source)
+      (filter (is_named (codes "source")) elements) relay.sources.items
   pub scopes : relay.scopes.items ≡ main ∷ labelled
   pub main_name : string_bytes main.name ≡ []
   pub main_matches : AreMatchesOf elements 0 elements main.matches.items

@@ -4,7 +4,7 @@
 ghost use Rattle.std.specs.Prelude.{◌≡◌, map, option_and_then, string_bytes, true, IfOk, ◌*◌, ◌^◌, None, Some, codes, unwrap_or, if◌then◌else◌, []};
 ghost use Rattle.conf_text.specs.Views.{setting, tree_of};
 ghost use Rattle.relay_conf.specs.Elements.{read_or, value_of};
-ghost use Rattle.relay_conf.specs.BufferSection.{buffer_in, buffer_of, buffer_rows, buffer_view, flush_mode_of, has_files, is_file_of, keeping_settings, kind_view, overflow_of, retry_of, threads_of};
+ghost use Rattle.relay_conf.specs.BufferSection.{IsBufferIn, IsBufferOf, buffer_rows, flush_mode_of, has_files, is_file_of, keeping_settings, kind_view, overflow_of, retry_of, threads_of};
 ghost use Rattle.relay_conf.specs.Rows.{rows_of};
 
 use crate::element::{last_child, pairs_of, value_of};
@@ -176,7 +176,7 @@ impl<A: Allocator> BufferSettings<A> {
     /// all else by default: what a section says that has `@type file`, this `path` and
     /// `retry_forever true`.
     pub fn keeping(path: String<A>) -> BufferSettings<A>
-        ensures means { buffer_view result ≡ buffer_of (keeping_settings (string_bytes path)) }
+        ensures means { IsBufferOf (keeping_settings (string_bytes path)) result }
         ensures kind { result.kind ≡ BufferKind.File path }
         ensures for_ever { result.retry.forever ≡ true }
         ensures refuses { result.overflow_action ≡ OverflowAction.ThrowException }
@@ -206,7 +206,7 @@ pub(crate) fn buffer_in<A: Allocator + Copy>(
     alloc: A,
     children: &[Element<A>],
 ) -> Result<BufferSettings<A>, AllocError>
-    ensures { IfOk result (λ b. buffer_view b ≡ buffer_in (map tree_of children.now)) }
+    ensures { IfOk result (λ b. IsBufferIn (map tree_of children.now) b) }
 {
     match last_child(children, "buffer") {
         None => {
@@ -218,7 +218,7 @@ pub(crate) fn buffer_in<A: Allocator + Copy>(
 }
 
 fn buffer<A: Allocator + Copy>(alloc: A, pairs: &[Pair<A>]) -> Result<BufferSettings<A>, AllocError>
-    ensures { IfOk result (λ b. buffer_view b ≡ buffer_of (map setting pairs.now)) }
+    ensures { IfOk result (λ b. IsBufferOf (map setting pairs.now) b) }
 {
     let in_files = has_files(pairs);
     Ok(BufferSettings {

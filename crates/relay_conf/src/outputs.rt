@@ -2,10 +2,11 @@
 //! the text.
 
 ghost use Rattle.std.specs.Prelude.{◌≡◌, ◌&&◌, ◌||◌, map, filter, IfOk, codes, string_bytes, ◌+◌};
+ghost use Rattle.std.specs.List.{AllZip};
 ghost use Rattle.conf_text.specs.Views.{setting, tree_of};
 ghost use Rattle.relay_conf.specs.Elements.{heading_of, settings_of, children_of, is_named};
-ghost use Rattle.relay_conf.specs.Meaning.{one_if, forward_of, file_of, kind_of, output_of, is_buffered, has_buffer, tree_buffers, is_copy, outputs_of, numbered};
-ghost use Rattle.relay_conf.specs.Views.{forward_view, file_view, output_view};
+ghost use Rattle.relay_conf.specs.Meaning.{one_if, kind_of, is_buffered, has_buffer, tree_buffers, is_copy, outputs_in, numbered};
+ghost use Rattle.relay_conf.specs.Described.{IsForwardOf, IsFileOf, IsOutputOf};
 ghost use Rattle.relay_conf.specs.Examined.{words_of};
 ghost use Rattle.relay_conf.specs.Relays.{AreOfWord, AreOfWords, IsMatchOf, AreMatchesOf, IsScopeOf, AreScopesOf};
 
@@ -27,7 +28,7 @@ fn forward<A: Allocator + Copy>(
     element: &Element<A>,
     number: usize,
 ) -> Result<ForwardSettings<A>, AllocError>
-    ensures { IfOk result (λ f. forward_view f ≡ forward_of number (tree_of element.now)) }
+    ensures { IfOk result (λ f. IsForwardOf number (tree_of element.now) f) }
 {
     let pairs = pairs_of(element);
     let children = children_of(element);
@@ -46,7 +47,7 @@ fn file<A: Allocator + Copy>(
     element: &Element<A>,
     number: usize,
 ) -> Result<FileSettings<A>, AllocError>
-    ensures { IfOk result (λ f. file_view f ≡ file_of number (tree_of element.now)) }
+    ensures { IfOk result (λ f. IsFileOf number (tree_of element.now) f) }
 {
     Ok(FileSettings {
         path: text_or(alloc, pairs_of(element), "path", "")?,
@@ -73,7 +74,7 @@ fn output<A: Allocator + Copy>(
     number: usize,
 ) -> Result<Output<A>, AllocError>
     ensures { IfOk result
-        (λ o. output_view o ≡ output_of (map tree_of elements.now) number (tree_of element.now)) }
+        (λ o. IsOutputOf (map tree_of elements.now) number (tree_of element.now) o) }
 {
     let pairs = pairs_of(element);
     let line = line_of(element);
@@ -163,8 +164,8 @@ fn outputs<A: Allocator + Copy>(
     first: usize,
 ) -> Result<Vec<Output<A>, A>, AllocError>
     ensures { IfOk result
-        (λ os. map output_view os.items
-        ≡ outputs_of (map tree_of elements.now) first (tree_of element.now)) }
+        (λ os. AllZip (λ p o. IsOutputOf (map tree_of elements.now) p.0 p.1 o)
+        (outputs_in first (tree_of element.now)) os.items) }
 {
     if is_copy(kind_of(pairs_of(element))) {
         return stores(alloc, elements, children_of(element), first);
@@ -182,9 +183,8 @@ fn stores<A: Allocator + Copy>(
     first: usize,
 ) -> Result<Vec<Output<A>, A>, AllocError>
     ensures { IfOk result
-        (λ os. map output_view os.items
-        ≡ map (λ p. output_of (map tree_of elements.now) p.0 p.1)
-        (numbered (codes "store") first (map tree_of children.now))) }
+        (λ os. AllZip (λ p o. IsOutputOf (map tree_of elements.now) p.0 p.1 o)
+        (numbered (codes "store") first (map tree_of children.now)) os.items) }
 {
     let mut outputs = Vec::new(alloc);
     let mut number = first;

@@ -1,11 +1,11 @@
 //! A configuration's elements, read into the relay that they describe.
 
 ghost use Rattle.std.specs.Prelude.{◌≡◌, ◌++◌, ⊤, map, filter, codes, IfOk, IfErr, MatchResult};
+ghost use Rattle.std.specs.List.{AllZip};
 ghost use Rattle.conf_text.specs.Views.{tree_of};
 ghost use Rattle.relay_conf.specs.Elements.{is_named};
 ghost use Rattle.relay_conf.specs.Faults.{HasFault, HasNoFault, IsRefusal};
-ghost use Rattle.relay_conf.specs.Meaning.{source_of};
-ghost use Rattle.relay_conf.specs.Views.{source_view};
+ghost use Rattle.relay_conf.specs.Described.{IsSourceOf};
 ghost use Rattle.relay_conf.specs.Relays.{IsRelayOf};
 ghost use Rattle.relay_conf.specs.Buffers.{HaveOwnBuffers};
 
@@ -70,9 +70,8 @@ fn sources<A: Allocator + Copy>(
     elements: &[Element<A>],
 ) -> Result<Vec<Source<A>, A>, AllocError>
     ensures { IfOk result
-        (λ found. map source_view found.items
-        ≡ map (source_of (map tree_of elements.now))
-        (filter (is_named (codes "source")) (map tree_of elements.now))) }
+        (λ found. AllZip (λ t s. IsSourceOf (map tree_of elements.now) t s)
+        (filter (is_named (codes "source")) (map tree_of elements.now)) found.items) }
 {
     let mut found = Vec::new(alloc);
     for element in elements {
@@ -89,7 +88,7 @@ fn source<A: Allocator + Copy>(
     element: &Element<A>,
 ) -> Result<Source<A>, AllocError>
     ensures { IfOk result
-        (λ s. source_view s ≡ source_of (map tree_of elements.now) (tree_of element.now)) }
+        (λ s. IsSourceOf (map tree_of elements.now) (tree_of element.now) s) }
 {
     let pairs = pairs_of(element);
     Ok(Source {

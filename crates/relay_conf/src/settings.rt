@@ -1,11 +1,10 @@
 //! The parts of a relay that stand by themselves: security and servers.
 
-ghost use Rattle.std.specs.Prelude.{◌≡◌, map, filter, IfOk, codes};
-ghost use Rattle.std.specs.Option.{option_map};
+ghost use Rattle.std.specs.Prelude.{map, filter, IfOk, codes};
+ghost use Rattle.std.specs.List.{AllZip};
 ghost use Rattle.conf_text.specs.Views.{setting, tree_of};
-ghost use Rattle.relay_conf.specs.Elements.{settings_of, is_named};
-ghost use Rattle.relay_conf.specs.Meaning.{security_of, security_in, server_of};
-ghost use Rattle.relay_conf.specs.Views.{security_view, server_view};
+ghost use Rattle.relay_conf.specs.Described.{IsSecurityOf, IsSecurityIn, IsServerOf};
+ghost use Rattle.relay_conf.specs.Elements.{is_named, last_child};
 
 use crate::defaults::DEFAULT_PORT;
 use crate::element::{is_named, last_child, line_of, pairs_of};
@@ -16,7 +15,7 @@ use conf_text::{Element, Pair};
 use std::alloc::{AllocError, Allocator};
 
 fn security<A: Allocator + Copy>(alloc: A, pairs: &[Pair<A>]) -> Result<Security<A>, AllocError>
-    ensures { IfOk result (λ s. security_view s ≡ security_of (map setting pairs.now)) }
+    ensures { IfOk result (λ s. IsSecurityOf (map setting pairs.now) s) }
 {
     Ok(Security {
         self_hostname: text_or(alloc, pairs, "self_hostname", "")?,
@@ -30,7 +29,7 @@ pub(crate) fn security_in<A: Allocator + Copy>(
     children: &[Element<A>],
 ) -> Result<Option<Security<A>>, AllocError>
     ensures { IfOk result
-        (λ found. option_map security_view found ≡ security_in (map tree_of children.now)) }
+        (λ found. IsSecurityIn (last_child (codes "security") (map tree_of children.now)) found) }
 {
     match last_child(children, "security") {
         None => Ok(None),
@@ -39,7 +38,7 @@ pub(crate) fn security_in<A: Allocator + Copy>(
 }
 
 fn server<A: Allocator + Copy>(alloc: A, element: &Element<A>) -> Result<Server<A>, AllocError>
-    ensures { IfOk result (λ s. server_view s ≡ server_of (tree_of element.now)) }
+    ensures { IfOk result (λ s. IsServerOf (tree_of element.now) s) }
 {
     let pairs = pairs_of(element);
     Ok(Server {
@@ -55,8 +54,8 @@ pub(crate) fn servers<A: Allocator + Copy>(
     children: &[Element<A>],
 ) -> Result<Vec<Server<A>, A>, AllocError>
     ensures { IfOk result
-        (λ found. map server_view found.items
-        ≡ map server_of (filter (is_named (codes "server")) (map tree_of children.now))) }
+        (λ found. AllZip (λ t s. IsServerOf t s)
+        (filter (is_named (codes "server")) (map tree_of children.now)) found.items) }
 {
     let mut found = Vec::new(alloc);
     for child in children {

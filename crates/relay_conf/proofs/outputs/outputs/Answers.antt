@@ -1,7 +1,7 @@
-use Rattle.std.proofs.Common.{◌≡◌, ◌∙◌, true, false, [], ◌∷◌, sym, ap}
+use Rattle.std.proofs.Common.{◌≡◌, ◌∙◌, true, false, sym, ap}
 use Rattle.conf_text.specs.Views.{tree_of}
 use Rattle.relay_conf.specs.Elements.{settings_of}
-use Rattle.relay_conf.specs.Meaning.{OutputMeaning, kind_of, is_copy}
+use Rattle.relay_conf.specs.Meaning.{kind_of, is_copy}
 use Rattle.relay_conf.proofs.outputs.outputs.Goals as goal
 
 pub returns-then-is_copy : goal.returns-then-is_copy
@@ -16,4 +16,4 @@ returns g c =
     let t = tree_of c.args.element.now in
     let kind : c.kind_of.result ≡ kind_of (settings_of t) = c.kind_of.ensures ∙ ap kind_of c.pairs_of.ensures in
     let own : is_copy (kind_of (settings_of t)) ≡ false = ap is_copy (sym kind) ∙ (sym c.is_copy.ensures ∙ c.if-is_copy.false) in
-    rw (own, c.in_ok-push.ensures.items, c.new-one.ensures.items) (ap (λ (o : OutputMeaning). o ∷ []) c.in_ok-output.ensures)
+    rw (own, c.in_ok-push.ensures.items, c.new-one.ensures.items) (c.in_ok-output.ensures, tt)

@@ -1,10 +1,8 @@
-use Rattle.std.proofs.Common.{◌∙◌, ◌+◌, sym, map, drop}
+use Rattle.std.proofs.Common.{◌∙◌, ◌+◌, [], ◌∷◌, sym, map, drop, append_assoc}
 use Rattle.std.specs.Prelude.{codes}
-use Rattle.std.proofs.lemmas.List.{map-append, append-nil, drop_all}
+use Rattle.std.proofs.lemmas.List.{append-nil, drop_all}
 use Rattle.conf_text.specs.Views.{tree_of}
 use Rattle.relay_conf.specs.Elements.{is_named}
-use Rattle.relay_conf.specs.Meaning.{server_of}
-use Rattle.relay_conf.specs.Views.{server_view}
 use Rattle.relay_conf.proofs.Drops.{drop_is}
 use Rattle.relay_conf.proofs.Numbering.{one_taken, one_passed}
 use Rattle.relay_conf.proofs.settings.servers.Goals as goal
@@ -17,13 +15,15 @@ loop-child-preserved g c =
     let here = drop_is xs k c.child-item.result c.loop-child-test.true c.child-item.is in
     let so_far = rw here at c.loop-child.invariant in
     elim c.if-is_named.branch [
-      | then-is_named+in_ok-server+in_ok-push w ↦ rw (w.found-is, w.in_ok-push.ensures.items, map-append)
-          (one_taken server_of (is_named (codes "server")) (tree_of c.child-item.result) (map tree_of (drop (k + 1) xs)) (map server_view c.loop-child.found.items) (server_view w.in_ok-server.field-0) _ (sym c.is_named.ensures ∙ w.if-is_named.true) w.in_ok-server.ensures so_far)
-      | else-is_named w ↦ rw w.found-is
-          (one_passed server_of (is_named (codes "server")) (tree_of c.child-item.result) (map tree_of (drop (k + 1) xs)) (map server_view c.loop-child.found.items) _ (sym c.is_named.ensures ∙ w.if-is_named.false) so_far)
+      | then-is_named+in_ok-server+in_ok-push w ↦
+          let taken = rw (one_taken (is_named (codes "server")) (tree_of c.child-item.result) (map tree_of (drop (k + 1) xs)) (sym c.is_named.ensures ∙ w.if-is_named.true)) at so_far in
+          λ rest h. rw (w.found-is, w.in_ok-push.ensures.items, append_assoc) (taken (w.in_ok-server.field-0 ∷ rest) (w.in_ok-server.ensures, h))
+      | else-is_named w ↦
+          let passed = rw (one_passed (is_named (codes "server")) (tree_of c.child-item.result) (map tree_of (drop (k + 1) xs)) (sym c.is_named.ensures ∙ w.if-is_named.false)) at so_far in
+          λ rest h. rw w.found-is (passed rest h)
     ]
 
 pub returns : goal.returns
 returns g c =
     let none = drop_all c.loop-child.child-index c.args.children.now c.loop-child-test.false in
-    sym (append-nil (map server_view c.loop-child.found.items)) ∙ (rw none at c.loop-child.invariant)
+    rw (append-nil c.loop-child.found.items) at ((rw none at c.loop-child.invariant) [] tt)
