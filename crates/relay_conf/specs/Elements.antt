@@ -1,5 +1,6 @@
 -- The parts of an element, and the values of its parameters.
 use Rattle.std.specs.Prelude.{ℕ, Bool, List, [], ◌∷◌, Option, Some, None, if◌then◌else◌, option_and_then, unwrap_or}
+use Rattle.std.specs.Option.{option_or}
 use Rattle.std.specs.Str.{bytes_eq}
 use Rattle.conf_text.specs.Trees.{Heading, Setting, Tree, tree, Trees, no_trees, more_trees}
 
@@ -24,19 +25,11 @@ children_of (tree heading settings children) = tree_list children
 abbrev pub is_named : List ℕ → Tree → Bool
 is_named name t = bytes_eq (heading_of t).name name
 
--- the first if there is one, else the second
-abbrev pub or_else : {X : Type 0} → Option X → Option X → Option X
-or_else (Some x) other = Some x
-or_else None other = other
-
--- the value in a parameter's line, if it has this name
-abbrev pub value_in : List ℕ → Setting → Option (List ℕ)
-value_in name s = if bytes_eq s.name name then Some s.value else None
-
 -- the value of the last line of this name, if there is one
 abbrev pub value_of : List ℕ → List Setting → Option (List ℕ)
 value_of name [] = None
-value_of name (s ∷ rest) = or_else (value_of name rest) (value_in name s)
+value_of name (s ∷ rest) = option_or (value_of name rest)
+    (if bytes_eq s.name name then Some s.value else None)
 
 -- a value as f reads it, or the default
 abbrev pub read_or : {X : Type 0} → (List ℕ → Option X) → X → Option (List ℕ) → X
@@ -45,5 +38,5 @@ read_or f default value = unwrap_or (option_and_then f value) default
 -- the last of the elements of this name, if there is one
 abbrev pub last_child : List ℕ → List Tree → Option Tree
 last_child name [] = None
-last_child name (t ∷ rest) = or_else (last_child name rest)
+last_child name (t ∷ rest) = option_or (last_child name rest)
     (if is_named name t then Some t else None)

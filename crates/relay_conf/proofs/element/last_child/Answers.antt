@@ -1,31 +1,31 @@
 use Rattle.std.proofs.Common.{◌≡◌, ◌∙◌, ◌+◌, sym, map, drop, Some, List, ℕ, ◌∷◌, Option, None, true, false, refl}
+use Rattle.std.specs.Option.{option_or}
 use Rattle.std.proofs.lemmas.List.{drop_all}
 use Rattle.conf_text.specs.Trees.{Tree}
 use Rattle.conf_text.specs.Views.{tree_of}
-use Rattle.relay_conf.specs.Elements.{is_named, or_else}
-use Rattle.relay_conf.specs.Elements.{last_child}
+use Rattle.relay_conf.specs.Elements.{is_named, last_child}
 use Rattle.relay_conf.proofs.Drops.{drop_is}
 use Rattle.relay_conf.proofs.element.last_child.Goals as goal
 use Rattle.relay_conf.proofs.element.last_child.Goals.{then-is_named, else-is_named}
 
 -- an element behind is found first, and else this one
-this_or_behind : (rest : Option Tree) (t : Tree) (before : Option Tree) → or_else (or_else rest (Some t)) before ≡ or_else rest (Some t)
+this_or_behind : (rest : Option Tree) (t : Tree) (before : Option Tree) → option_or (option_or rest (Some t)) before ≡ option_or rest (Some t)
 this_or_behind None t before = refl
 this_or_behind (Some u) t before = refl
 
 -- where this one is none, what was found before stays
-before_or_behind : (rest before : Option Tree) → or_else (or_else rest None) before ≡ or_else rest before
+before_or_behind : (rest before : Option Tree) → option_or (option_or rest None) before ≡ option_or rest before
 before_or_behind None before = refl
 before_or_behind (Some u) before = refl
 
 -- an element of the name is found in the place of any before it
 found_here : (name : List ℕ) (t : Tree) (ts : List Tree) (before all : Option Tree) → is_named name t ≡ true
-    → or_else (last_child name (t ∷ ts)) before ≡ all → or_else (last_child name ts) (Some t) ≡ all
+    → option_or (last_child name (t ∷ ts)) before ≡ all → option_or (last_child name ts) (Some t) ≡ all
 found_here name t ts before all full so_far = sym (this_or_behind (last_child name ts) t before) ∙ (rw full at so_far)
 
 -- another one is passed
 found_behind : (name : List ℕ) (t : Tree) (ts : List Tree) (before all : Option Tree) → is_named name t ≡ false
-    → or_else (last_child name (t ∷ ts)) before ≡ all → or_else (last_child name ts) before ≡ all
+    → option_or (last_child name (t ∷ ts)) before ≡ all → option_or (last_child name ts) before ≡ all
 found_behind name t ts before all empty so_far = sym (before_or_behind (last_child name ts) before) ∙ (rw empty at so_far)
 
 pub loop-child-preserved : goal.loop-child-preserved
