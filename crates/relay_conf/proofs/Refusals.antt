@@ -1,30 +1,31 @@
 -- What follows from going through all findings.
-use Rattle.std.proofs.Common.{◌≡◌, List, [], ◌∷◌, Result, Ok, Err, inl, inr, refl}
+use Rattle.std.proofs.Common.{◌≡◌, zero, suc, List, [], ◌∷◌, Result, Ok, Err, inl, inr, refl, subst, arith}
 use Rattle.std.specs.Prelude.{⊤, IfOk, IfErr, MatchResult}
+use Rattle.std.specs.List.{Any}
 use Rattle.conf_text.specs.Trees.{Tree}
 use Rattle.relay_conf.specs.declared.fault.RelayFault.{RelayFault}
 use Rattle.relay_conf.specs.declared.fault.RelayError.{RelayError}
 use Rattle.relay_conf.specs.declared.fault.RelayError.TheVariants as errors
-use Rattle.relay_conf.specs.Findings.{Finding, a_fault, a_pattern, Passes, Stands, AllPass, AnyStands, FirstStands, Refuses, Examines}
+use Rattle.relay_conf.specs.Findings.{Finding, a_fault, a_pattern, Passes, Stands, AllPass, FirstStands, Refuses, Examines}
 use Rattle.relay_conf.specs.Faults.{all_found, HasFault, HasNoFault, IsRefusal}
 
 passes_or_stands : (x : Finding) (f : RelayFault) → Passes x → Stands x f → ⊥
 passes_or_stands (a_fault kind line) f h s = absurd h
 passes_or_stands (a_pattern text line) f h s = s.0 h.0 h.1
 
-none_stands : (xs : List Finding) (f : RelayFault) → AllPass xs → AnyStands xs f → ⊥
-none_stands [] f h s = s
-none_stands (x ∷ xs) f h (inl s) = passes_or_stands x f h.0 s
-none_stands (x ∷ xs) f h (inr s) = none_stands xs f h.1 s
+none_stands : (xs : List Finding) (f : RelayFault) → AllPass xs → Any (λ x. Stands x f) xs → ⊥
+none_stands [] f h (k, x, lt, is, s) = absurd (omega (arith, lt))
+none_stands (y ∷ xs) f h (zero, x, lt, is, s) = passes_or_stands x f (subst Passes is h.0) s
+none_stands (y ∷ xs) f h (suc k, x, lt, is, s) = none_stands xs f h.1 (k, x, omega (arith, lt), is, s)
 
-any_from_first : (xs : List Finding) (f : RelayFault) → FirstStands xs f → AnyStands xs f
-any_from_first [] f h = h
-any_from_first (x ∷ xs) f (inl s) = inl s
-any_from_first (x ∷ xs) f (inr s) = inr (any_from_first xs f s.1)
+none_first : (xs : List Finding) (f : RelayFault) → AllPass xs → FirstStands xs f → ⊥
+none_first [] f h s = s
+none_first (x ∷ xs) f h (inl s) = passes_or_stands x f h.0 s
+none_first (x ∷ xs) f h (inr s) = none_first xs f h.1 s.1
 
 is_memory : (xs : List Finding) (e : RelayError) → AllPass xs → Refuses xs e → e ≡ errors.Memory
 is_memory xs errors.Memory h s = refl
-is_memory xs (errors.Fault f) h s = absurd (none_stands xs f h (any_from_first xs f s))
+is_memory xs (errors.Fault f) h s = absurd (none_first xs f h s)
 
 pub faultless : {X : Type 0} (elements : List Tree) (r : Result X RelayError) → Examines (all_found elements) r → IfOk r (λ x. HasNoFault elements)
 faultless elements (Ok x) h = h
@@ -32,7 +33,8 @@ faultless elements (Err e) h = tt
 
 pub refused : {X : Type 0} (elements : List Tree) (r : Result X RelayError) → Examines (all_found elements) r → IfErr r (λ e. IsRefusal elements e)
 refused elements (Ok x) h = tt
-refused elements (Err e) h = h
+refused elements (Err errors.Memory) h = tt
+refused elements (Err (errors.Fault f)) h = h
 
 pub not_read : {X : Type 0} (elements : List Tree) (r : Result X RelayError) → Examines (all_found elements) r → (f : RelayFault) → HasFault elements f → IfOk r (λ x. ⊥)
 not_read elements (Ok x) h f s = none_stands (all_found elements) f h s

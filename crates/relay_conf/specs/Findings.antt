@@ -1,5 +1,6 @@
 -- What is examined, in its order, and what of it is a fault.
 use Rattle.std.specs.Prelude.{◌≡◌, ⊤, ℕ, ◌⊎◌, List, [], ◌∷◌, Result, Ok, Err}
+use Rattle.std.specs.List.{AllByRecursion}
 use Rattle.tag_pattern.specs.Grammar.{Slot, IsPattern}
 use Rattle.relay_conf.specs.declared.fault.RelayFaultKind.{RelayFaultKind}
 use Rattle.relay_conf.specs.declared.fault.RelayFaultKind.TheVariants as kinds
@@ -26,13 +27,7 @@ Stands (a_pattern text line) f = ((slots : List Slot) → ¬ IsPattern slots tex
 
 -- nothing is wrong anywhere
 abbrev pub AllPass : List Finding → Type 0
-AllPass [] = ⊤
-AllPass (x ∷ xs) = Passes x × AllPass xs
-
--- some finding is this fault
-abbrev pub AnyStands : List Finding → RelayFault → Type 0
-AnyStands [] f = ⊥
-AnyStands (x ∷ xs) f = Stands x f ⊎ AnyStands xs f
+AllPass findings = AllByRecursion Passes findings
 
 -- some finding is this fault, and nothing is wrong before it
 abbrev pub FirstStands : List Finding → RelayFault → Type 0
