@@ -60,9 +60,7 @@ module _ {A : Type 0} where
 
 module _ {A B : Type 0} where
   same_security : (t : Option Tree) (x : Option (Security A)) (y : Option (Security B)) → IsSecurityIn t x → IsSecurityIn t y → option_map security_view x ≡ option_map security_view y
-  same_security None None None h k = refl
-  same_security None None (Some y) h k = absurd k
-  same_security None (Some x) y h k = absurd h
+  same_security None x y h k = rw (h, k) refl
   same_security (Some t) None y h k = absurd h
   same_security (Some t) (Some x) None h k = absurd k
   same_security (Some t) (Some x) (Some y) h k =

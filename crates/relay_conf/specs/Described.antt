@@ -1,5 +1,5 @@
 -- What the sections of a relay describe: each value is that of its last line, or the default.
-use Rattle.std.specs.Prelude.{◌≡◌, ◌≢◌, ℕ, false, List, [], codes, filter, Option, Some, None, unwrap_or, option_and_then, if◌then◌else◌, string_bytes}
+use Rattle.std.specs.Prelude.{◌≡◌, ◌≢◌, ℕ, false, List, [], codes, filter, Option, Some, None, unwrap_or, option_and_then, MatchOption, IsSomeAnd, if◌then◌else◌, string_bytes}
 use Rattle.std.specs.List.{AllZip}
 use Rattle.conf_text.specs.Trees.{Setting, Tree}
 use Rattle.conf_values.specs.Numbers.{port_of}
@@ -27,9 +27,8 @@ pub record IsSecurityOf {A : Type 0} (settings : List Setting) (s : Security A) 
 
 -- that of this security section, and none where there is no section
 abbrev pub IsSecurityIn : {A : Type 0} → Option Tree → Option (Security A) → Type 0
-IsSecurityIn None None = Unit {0}
-IsSecurityIn (Some t) (Some s) = IsSecurityOf (settings_of t) s
-IsSecurityIn _ _ = ⊥
+IsSecurityIn section found = MatchOption section (found ≡ None)
+    (λ t. IsSomeAnd found (IsSecurityOf (settings_of t)))
 
 -- the source that a section describes: port 24224 of every local address, the main scope, and no
 -- prefix, where nothing else is said
