@@ -1,11 +1,12 @@
 -- That a text describes one relay, or has one first fault, and never both.
-use Rattle.std.proofs.Common.{◌≡◌, ◌∙◌, ℕ, List, [], ◌∷◌, ◌++◌, codes, map, filter, sym, ap, subst, inl, inr}
-use Rattle.conf_text.specs.Trees.{Tree}
-use Rattle.conf_text.specs.Grammar.{HasFault as HasTextFault}
+use Rattle.std.proofs.Common.{◌≡◌, ◌∙◌, ℕ, List, [], ◌∷◌, codes, filter, refl, sym, ap, subst, inl, inr}
+use Rattle.std.specs.List.{AllZip, flat_map}
+use Rattle.conf_text.specs.Trees.{Tree, tree, trees}
+use Rattle.conf_text.specs.Grammar.{top, HasFault as HasTextFault}
 use Rattle.conf_text.specs.declared.fault.ConfFault.{ConfFault}
 use Rattle.conf_text.proofs.Whole.{one_reading, faultless}
 use Rattle.tag_pattern.specs.Items.{Item}
-use Rattle.tag_pattern.specs.Grammar.{plain_patterns}
+use Rattle.tag_pattern.specs.Grammar.{Slot, IsPattern, plain_patterns}
 use Rattle.tag_pattern.proofs.SlotCuts.{slots_unique}
 use Rattle.relay_conf.specs.Elements.{heading_of, children_of, is_named}
 use Rattle.relay_conf.specs.Examined.{words_of}
@@ -15,57 +16,57 @@ use Rattle.relay_conf.specs.declared.fault.RelayFault.{RelayFault}
 use Rattle.relay_conf.specs.declared.relay.MatchRule.{MatchRule}
 use Rattle.relay_conf.specs.declared.relay.Relay.{Relay}
 use Rattle.relay_conf.specs.declared.relay.Scope.{Scope}
-use Rattle.relay_conf.specs.Meaning.{numbered, outputs_in}
-use Rattle.relay_conf.specs.Relays.{AreOfWord, AreOfWords, IsMatchOf, AreMatchesOf, IsScopeOf, AreScopesOf, IsRelayOf}
+use Rattle.relay_conf.specs.Meaning.{numbered}
+use Rattle.relay_conf.specs.Relays.{AreOfWords, IsMatchOf, IsScopeOf, IsRelayOf}
 use Rattle.plan_lines.specs.Faults.{HasNoPattern, HasRelayFault}
 use Rattle.plan_lines.specs.Plans.{IsRelayOfText}
 use Rattle.plan_lines.specs.Meanings.{source_view, output_view, match_view, scope_view, conf_view}
 use Rattle.plan_lines.proofs.OneOutput.{same_all, same_source, same_output}
 
--- a word stands for one list of plain patterns
-of_one_word : (word : List ℕ) (ps qs : List (List Item)) → AreOfWord word ps → AreOfWord word qs → ps ≡ qs
-of_one_word word ps qs (slots, is, plains) (others, are, others_plains) = plains ∙ (ap plain_patterns (slots_unique slots others word is.spelled are.spelled) ∙ sym others_plains)
+-- words are spelled by one list of slots each
+same_slots : (slots others : List (List Slot)) (words : List (List ℕ)) → AllZip IsPattern slots words → AllZip IsPattern others words → slots ≡ others
+same_slots [] [] [] h k = refl
+same_slots [] (o ∷ others) [] h k = absurd k
+same_slots [] others (w ∷ words) h k = absurd h
+same_slots (s ∷ slots) others [] h k = absurd h
+same_slots (s ∷ slots) [] (w ∷ words) h k = absurd k
+same_slots (s ∷ slots) (o ∷ others) (w ∷ words) h k =
+    ap (λ x. x ∷ slots) (slots_unique s o w h.0.spelled k.0.spelled) ∙ ap (λ xs. o ∷ xs) (same_slots slots others words h.1 k.1)
 
--- and so do words
+-- words stand for one list of plain patterns
 pub of_words : (words : List (List ℕ)) (ps qs : List (List Item)) → AreOfWords words ps → AreOfWords words qs → ps ≡ qs
-of_words [] ps qs h k = h ∙ sym k
-of_words (word ∷ words) ps qs (front, rest, parts, one, more) (front2, rest2, parts2, one2, more2) =
-    parts ∙ (ap (λ f. f ++ rest) (of_one_word word front front2 one one2) ∙ (ap (λ r. front2 ++ r) (of_words words rest rest2 more more2) ∙ sym parts2))
+of_words words ps qs (slots, are, plains) (others, are_too, others_plains) =
+    plains ∙ (ap (flat_map plain_patterns) (same_slots slots others words are are_too) ∙ sym others_plains)
+
+slots_or_none : (slots : List (List Slot)) (words : List (List ℕ)) → AllZip IsPattern slots words → ¬ HasNoPattern words
+slots_or_none slots [] h none = none
+slots_or_none [] (w ∷ words) h none = absurd h
+slots_or_none (s ∷ slots) (w ∷ words) h (inl none) = none s h.0
+slots_or_none (s ∷ slots) (w ∷ words) h (inr none) = slots_or_none slots words h.1 none
 
 -- words that stand for patterns are patterns
 pub words_or_none : (words : List (List ℕ)) (ps : List (List Item)) → AreOfWords words ps → ¬ HasNoPattern words
-words_or_none [] ps h none = none
-words_or_none (word ∷ words) ps (front, rest, parts, (slots, is, plains), more) (inl none) = none slots is
-words_or_none (word ∷ words) ps (front, rest, parts, one, more) (inr none) = words_or_none words rest more none
+words_or_none words ps (slots, are, plains) = slots_or_none slots words are
 
 module _ {A B : Type 0} (elements : List Tree) where
   same_match : (p : ℕ × Tree) (r : MatchRule A) (s : MatchRule B) → IsMatchOf elements p.0 p.1 r → IsMatchOf elements p.0 p.1 s → match_view r ≡ match_view s
   same_match p r s h k =
       let patterns = of_words (words_of (heading_of p.1).argument) r.patterns.items s.patterns.items h.patterns k.patterns in
-      let outputs = same_all _ _ output_view output_view (same_output elements) (outputs_in p.0 p.1) r.outputs.items s.outputs.items h.outputs k.outputs in
+      let outputs = same_all _ _ output_view output_view (same_output elements) _ r.outputs.items s.outputs.items h.outputs k.outputs in
       let line = h.line ∙ sym k.line in
       λ i. record { patterns = patterns i; outputs = outputs i; line = line i }
-
-  same_matches : (n : ℕ) (ts : List Tree) (rs : List (MatchRule A)) (ss : List (MatchRule B)) → AreMatchesOf elements n ts rs → AreMatchesOf elements n ts ss → map match_view rs ≡ map match_view ss
-  same_matches n ts = same_all _ _ match_view match_view same_match (numbered (codes "match") n ts)
 
   same_scope : (p : ℕ × Tree) (x : Scope A) (y : Scope B) → IsScopeOf elements p.0 p.1 x → IsScopeOf elements p.0 p.1 y → scope_view x ≡ scope_view y
   same_scope p x y h k =
       let name = h.name ∙ sym k.name in
-      let matches = same_matches p.0 (children_of p.1) x.matches.items y.matches.items h.matches k.matches in
+      let matches = same_all _ _ match_view match_view same_match (numbered (codes "match") p.0 (children_of p.1)) x.matches.items y.matches.items h.matches k.matches in
       λ i. record { name = name i; matches = matches i }
-
-  same_scopes : (xs : List (Scope A)) (ys : List (Scope B)) → AreScopesOf elements 0 elements xs → AreScopesOf elements 0 elements ys → map scope_view xs ≡ map scope_view ys
-  same_scopes = same_all _ _ scope_view scope_view same_scope (numbered (codes "label") 0 elements)
 
   -- elements describe one relay
   pub same_relay : (r : Relay A) (s : Relay B) → IsRelayOf elements r → IsRelayOf elements s → conf_view r ≡ conf_view s
   same_relay r s h k =
-      let name = h.main_name ∙ sym k.main_name in
-      let matches = same_matches 0 elements h.main.matches.items k.main.matches.items h.main_matches k.main_matches in
-      let labels = same_scopes h.labelled k.labelled h.labels k.labels in
       let sources = same_all _ _ source_view source_view (same_source elements) (filter (is_named (codes "source")) elements) r.sources.items s.sources.items h.sources k.sources in
-      let scopes = ap (map scope_view) h.scopes ∙ ((λ i. record { name = name i; matches = matches i } ∷ labels i) ∙ sym (ap (map scope_view) k.scopes)) in
+      let scopes = same_all _ _ scope_view scope_view same_scope ((0, tree top [] (trees elements)) ∷ numbered (codes "label") 0 elements) r.scopes.items s.scopes.items h.scopes k.scopes in
       λ i. record { sources = sources i; scopes = scopes i }
 
 -- a finding is a fault, and one alone, where it doesn't pass

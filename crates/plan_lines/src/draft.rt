@@ -4,7 +4,8 @@ ghost use Rattle.std.specs.Prelude.{◌≡◌, ℕ, List, [], ◌∷◌, ◌<◌
 ghost use Rattle.std.specs.Str.{bytes_eq};
 ghost use Rattle.std.specs.Option.{option_and_then, option_copied};
 ghost use Rattle.relay_conf.specs.Examined.{words_of};
-ghost use Rattle.relay_conf.specs.Relays.{AreOfWord, AreOfWords};
+ghost use Rattle.relay_conf.specs.PatternWords.{AreOfWord};
+ghost use Rattle.relay_conf.specs.Relays.{AreOfWords};
 ghost use Rattle.relay_net.specs.Network.{node_of, source_of_port};
 ghost use Rattle.loss_rules.specs.Sites.{rule_at};
 ghost use Rattle.plan_lines.specs.Forms.{a_relay, a_client, a_label, a_reach, form_of as form_by, line_form};

@@ -1,5 +1,5 @@
 -- Counting the buffers in an element.
-use Rattle.std.proofs.Common.{◌≡◌, ◌+◌, ◌&&◌, ℕ, List, ◌∷◌, Bool, true, false, map, drop, Option, refl, sym, ap, ◌∙◌, arith}
+use Rattle.std.proofs.Common.{◌≡◌, ◌+◌, ◌&&◌, ℕ, List, ◌∷◌, Bool, true, false, map, drop, Option, refl, sym, ap, ◌∙◌, arith, if◌then◌else◌}
 use Rattle.std.specs.Prelude.{◌||◌, codes}
 use Rattle.std.specs.Str.{bytes_eq}
 use Rattle.std.proofs.lemmas.Bool.{false≢true}
@@ -9,7 +9,11 @@ use Rattle.conf_text.specs.Views.{tree_of}
 use Rattle.conf_text.proofs.Elements.{tree_of_out}
 use Rattle.relay_conf.specs.declared.form.OutputType.{OutputType}
 use Rattle.relay_conf.specs.Elements.{heading_of, settings_of, is_named}
-use Rattle.relay_conf.specs.Meaning.{is_buffered, kind_of, one_if, has_buffer, tree_buffers, trees_buffers}
+use Rattle.relay_conf.specs.Meaning.{is_buffered, kind_of, has_buffer, tree_buffers, trees_buffers}
+
+-- one where it holds, else none
+abbrev pub one_if : Bool → ℕ
+one_if b = if b then 1 else 0
 
 buffers_at : (t : Tree) (h : Heading) (s : List Setting) (kids : List Tree) → t ≡ tree h s (trees kids) → is_named (codes "system") t ≡ false
     → tree_buffers t ≡ one_if (has_buffer (heading_of t) (settings_of t)) + trees_buffers (trees kids)

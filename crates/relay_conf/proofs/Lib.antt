@@ -10,5 +10,7 @@ pub mod Parameters
 pub mod LastValues
 pub mod Counting
 pub mod Numbering
-pub mod OwnBuffers
 pub mod Nowhere
+pub mod Copies
+pub mod PatternWords
+pub mod OwnBuffers

@@ -6,7 +6,9 @@ use Rattle.std.specs.Option.{option_and_then}
 use Rattle.std.specs.Str.{bytes_eq}
 use Rattle.std.proofs.lemmas.Bool.{eq-eqb, eqb-true, false≢true}
 use Rattle.std.proofs.lemmas.Slice.Eq.{bytes_eq-Decides}
-use Rattle.conf_text.specs.Trees.{Heading, Setting, Tree, tree, Trees, no_trees, more_trees}
+use Rattle.conf_text.specs.Grammar.{top}
+use Rattle.conf_text.specs.Trees.{Heading, Setting, Tree, tree, trees, Trees, no_trees, more_trees}
+use Rattle.relay_conf.specs.Copies.{is_copy, outputs_in}
 use Rattle.relay_conf.specs.Described.{IsOutputOf}
 use Rattle.relay_conf.specs.Elements.{heading_of, settings_of, children_of, tree_list, is_named}
 use Rattle.relay_conf.specs.declared.output.Output.{Output}
@@ -15,8 +17,11 @@ use Rattle.relay_conf.specs.declared.relay.MatchRule.{MatchRule}
 use Rattle.relay_conf.specs.declared.relay.Relay.{Relay}
 use Rattle.relay_conf.specs.declared.relay.Scope.{Scope}
 use Rattle.relay_conf.specs.Buffers.{buffer_number, output_in_relay, HaveOwnBuffers}
-use Rattle.relay_conf.specs.Meaning.{kind_of, is_buffered, has_buffer, one_if, is_copy, outputs_in, numbered, tree_buffers, trees_buffers}
+use Rattle.relay_conf.specs.Meaning.{kind_of, is_buffered, has_buffer, numbered, tree_buffers, trees_buffers}
 use Rattle.relay_conf.specs.Relays.{IsMatchOf, IsScopeOf, IsRelayOf}
+use Rattle.relay_conf.proofs.Counting.{one_if}
+use Rattle.relay_conf.proofs.Copies.{outputs_are}
+use Rattle.relay_conf.proofs.Trees.{tree_list_trees}
 
 -- one where the buffer is this one, else none
 abbrev is_it : Option ℕ → ℕ → ℕ
@@ -191,7 +196,7 @@ held_matches b all [] [] h = refl
 held_matches b all [] (rule ∷ rules) h = absurd h
 held_matches b all (p ∷ ps) [] h = absurd h
 held_matches b all (p ∷ ps) (rule ∷ rules) h =
-    let first = held_said b all (outputs_in p.0 p.1) rule.outputs.items h.0.outputs in
+    let first = held_said b all (outputs_in p.0 p.1) rule.outputs.items (rw (outputs_are p.0 p.1) h.0.outputs) in
     let rest = held_matches b all ps rules h.1 in
     rw (held-append b rule.outputs.items (flat_map (λ rule. rule.outputs.items) rules), said-append b (outputs_in p.0 p.1) (flat_map (λ p. outputs_in p.0 p.1) ps)) (omega (arith, first, rest))
 
@@ -215,11 +220,11 @@ all_outputs relay = flat_map scope_outputs relay.scopes.items
 
 held_once : {A : Type 0} (b : ℕ) (all : List Tree) (relay : Relay A) → IsRelayOf all relay → held b (all_outputs relay) ≤ 1
 held_once b all relay h =
-    let main = held_matches b all (numbered (codes "match") 0 all) h.main.matches.items h.main_matches in
-    let rest = held_scopes b all (numbered (codes "label") 0 all) h.labelled h.labels in
+    let same = held_scopes b all ((0, tree top [] (trees all)) ∷ numbered (codes "label") 0 all) relay.scopes.items h.scopes in
+    let main_and_labels : held b (all_outputs relay) ≡ said b (match_outputs 0 all ++ label_outputs 0 all) = rw (tree_list_trees all) at same in
+    let parts = said-append b (match_outputs 0 all) (label_outputs 0 all) in
     let few = (in_all b 0 all).one in
-    let parts = held-append b (scope_outputs h.main) (flat_map scope_outputs h.labelled) in
-    rw (h.scopes, parts) (omega (arith, main, rest, few))
+    omega (arith, main_and_labels, parts, few)
 
 -- Where one of many counts, and so does another, they stand at one place.
 

@@ -11,6 +11,8 @@ pub mod Labels
 pub mod Faults
 pub mod Targets
 pub mod Meaning
+pub mod Copies
 pub mod Described
+pub mod PatternWords
 pub mod Relays
 pub mod Buffers

@@ -4,7 +4,7 @@ use Rattle.std.specs.Str.{bytes_eq}
 use Rattle.conf_text.specs.Trees.{Heading, Setting, Tree, tree, Trees, no_trees, more_trees}
 use Rattle.relay_conf.specs.declared.form.OutputType.{OutputType}
 use Rattle.relay_conf.specs.declared.form.OutputType.TheVariants as outputs
-use Rattle.relay_conf.specs.Elements.{settings_of, children_of, value_of, is_named}
+use Rattle.relay_conf.specs.Elements.{value_of, is_named}
 use Rattle.relay_conf.specs.Words.{output_type_of}
 
 -- the type of an output, by its last line
@@ -22,17 +22,13 @@ abbrev pub has_buffer : Heading → List Setting → Bool
 has_buffer h settings = (bytes_eq h.name (codes "match") || bytes_eq h.name (codes "store"))
     && is_buffered (kind_of settings)
 
--- one where it holds, else none
-abbrev pub one_if : Bool → ℕ
-one_if b = if b then 1 else 0
-
 -- how many outputs with a buffer are in an element, itself included, and in elements one after the
 -- other
 abbrev mutual
   pub tree_buffers : Tree → ℕ
   tree_buffers (tree h settings children) =
-      if bytes_eq h.name (codes "system") then 0 else one_if (has_buffer h settings)
-      + trees_buffers children
+      if bytes_eq h.name (codes "system") then 0
+      else (if has_buffer h settings then 1 else 0) + trees_buffers children
 
   pub trees_buffers : Trees → ℕ
   trees_buffers no_trees = 0
@@ -44,15 +40,3 @@ abbrev pub numbered : List ℕ → ℕ → List Tree → List (ℕ × Tree)
 numbered name n [] = []
 numbered name n (t ∷ ts) = if is_named name t then (n, t) ∷ numbered name (n + tree_buffers t) ts
     else numbered name (n + tree_buffers t) ts
-
--- whether an output is a copy
-abbrev pub is_copy : Option OutputType → Bool
-is_copy (Some outputs.Copy) = true
-is_copy _ = false
-
--- the elements that are the outputs of a match, each with how many buffers stand before it, where n
--- stand before the match: the stores where it is a copy, else the match itself
-abbrev pub outputs_in : ℕ → Tree → List (ℕ × Tree)
-outputs_in n t =
-    if is_copy (kind_of (settings_of t)) then numbered (codes "store") n (children_of t)
-    else (n, t) ∷ []

@@ -1,14 +1,15 @@
 //! Outputs, matches and scopes, filled from elements, with their buffers numbered in the order of
 //! the text.
 
-ghost use Rattle.std.specs.Prelude.{◌≡◌, ◌&&◌, ◌||◌, map, filter, IfOk, codes, string_bytes, ◌+◌};
+ghost use Rattle.std.specs.Prelude.{◌≡◌, ◌&&◌, ◌||◌, map, filter, IfOk, codes, string_bytes, ◌+◌, if◌then◌else◌};
 ghost use Rattle.std.specs.List.{AllZip};
 ghost use Rattle.conf_text.specs.Views.{setting, tree_of};
 ghost use Rattle.relay_conf.specs.Elements.{heading_of, settings_of, children_of, is_named};
-ghost use Rattle.relay_conf.specs.Meaning.{one_if, kind_of, is_buffered, has_buffer, tree_buffers, is_copy, outputs_in, numbered};
+ghost use Rattle.relay_conf.specs.Meaning.{kind_of, is_buffered, has_buffer, tree_buffers, numbered};
+ghost use Rattle.relay_conf.specs.Copies.{is_copy, outputs_in};
 ghost use Rattle.relay_conf.specs.Described.{IsForwardOf, IsFileOf, IsOutputOf};
 ghost use Rattle.relay_conf.specs.Examined.{words_of};
-ghost use Rattle.relay_conf.specs.Relays.{AreOfWord, AreOfWords, IsMatchOf, AreMatchesOf, IsScopeOf, AreScopesOf};
+ghost use Rattle.relay_conf.specs.Relays.{AreOfWords, IsMatchOf, IsScopeOf};
 
 use crate::buffer::buffer_in;
 use crate::defaults::{DEFAULT_ACK_RESPONSE_TIMEOUT, DEFAULT_REQUIRE_ACK_RESPONSE};
@@ -110,8 +111,9 @@ fn buffers_in<A: Allocator>(element: &Element<A>) -> Result<usize, AllocError>
 }
 
 fn own_buffers<A: Allocator>(element: &Element<A>) -> usize
-    ensures { result ≡ one_if
-        (has_buffer (heading_of (tree_of element.now)) (settings_of (tree_of element.now))) }
+    ensures { result
+        ≡ (if has_buffer (heading_of (tree_of element.now)) (settings_of (tree_of element.now))
+        then 1 else 0) }
 {
     let is_output = is_named(element, "match") || is_named(element, "store");
     if is_output && is_buffered(kind_of(pairs_of(element))) {
@@ -222,8 +224,8 @@ pub(crate) fn matches_in<A: Allocator + Copy>(
     first: usize,
 ) -> Result<Vec<MatchRule<A>, A>, AllocError>
     ensures { IfOk result
-        (λ rules. AreMatchesOf (map tree_of elements.now) first
-        (map tree_of among.now) rules.items) }
+        (λ rules. AllZip (λ p rule. IsMatchOf (map tree_of elements.now) p.0 p.1 rule)
+        (numbered (codes "match") first (map tree_of among.now)) rules.items) }
 {
     let mut rules = Vec::new(alloc);
     let mut number = first;
@@ -258,8 +260,8 @@ pub(crate) fn label_scopes<A: Allocator + Copy>(
     elements: &[Element<A>],
 ) -> Result<Vec<Scope<A>, A>, AllocError>
     ensures { IfOk result
-        (λ scopes. AreScopesOf (map tree_of elements.now) 0
-        (map tree_of elements.now) scopes.items) }
+        (λ scopes. AllZip (λ p scope. IsScopeOf (map tree_of elements.now) p.0 p.1 scope)
+        (numbered (codes "label") 0 (map tree_of elements.now)) scopes.items) }
 {
     let mut scopes = Vec::new(alloc);
     let mut number = 0;

@@ -2,7 +2,8 @@
 
 ghost use Rattle.std.specs.Prelude.{map, IfOk};
 ghost use Rattle.relay_conf.specs.Examined.{words_of};
-ghost use Rattle.relay_conf.specs.Relays.{AreOfWord, AreOfWords};
+ghost use Rattle.relay_conf.specs.PatternWords.{AreOfWord};
+ghost use Rattle.relay_conf.specs.Relays.{AreOfWords};
 
 use crate::pattern_words::words;
 use std::alloc::{AllocError, Allocator};

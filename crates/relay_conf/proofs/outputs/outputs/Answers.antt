@@ -1,7 +1,8 @@
 use Rattle.std.proofs.Common.{◌≡◌, ◌∙◌, true, false, sym, ap}
 use Rattle.conf_text.specs.Views.{tree_of}
+use Rattle.relay_conf.specs.Copies.{is_copy}
 use Rattle.relay_conf.specs.Elements.{settings_of}
-use Rattle.relay_conf.specs.Meaning.{kind_of, is_copy}
+use Rattle.relay_conf.specs.Meaning.{kind_of}
 use Rattle.relay_conf.proofs.outputs.outputs.Goals as goal
 
 pub returns-then-is_copy : goal.returns-then-is_copy

@@ -1,12 +1,16 @@
+use Rattle.std.proofs.Common.{map}
+use Rattle.conf_text.specs.Views.{tree_of}
+use Rattle.relay_conf.proofs.Trees.{tree_list_trees}
 use Rattle.relay_conf.proofs.reading.filled.Goals as goal
 
 pub returns : goal.returns
 returns g c = record {
-  main = record { name = c.new.result; matches = c.in_ok-matches_in.field-0 };
-  labelled = c.in_ok-scopes.scopes.items;
   sources = c.in_ok-sources.ensures;
-  scopes = c.in_ok-insert.ensures.items;
-  main_name = c.new.ensures.bytes;
-  main_matches = c.in_ok-matches_in.ensures;
-  labels = c.in_ok-scopes.ensures;
+  scopes = rw c.in_ok-insert.ensures.items (
+    record {
+      name = c.new.ensures.bytes;
+      matches = rw (tree_list_trees (map tree_of c.args.elements.now)) c.in_ok-matches_in.ensures;
+    },
+    c.in_ok-scopes.ensures,
+  );
 }
