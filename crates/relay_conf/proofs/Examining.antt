@@ -9,27 +9,27 @@ use Rattle.relay_conf.specs.declared.section.Section.{Section}
 use Rattle.relay_conf.specs.declared.section.Opening.{Opening}
 use Rattle.relay_conf.specs.declared.fault.RelayError.{RelayError}
 use Rattle.relay_conf.specs.Elements.{heading_of, settings_of, children_of, value_of}
-use Rattle.relay_conf.specs.Sections.{opening_in}
+use Rattle.relay_conf.specs.Sections.{profile_of}
 use Rattle.relay_conf.specs.Findings.{AllPass, Refuses, Examines}
 use Rattle.relay_conf.specs.Examined.{front_found, section_of, section_in, trees_found, missing_found, tree_found}
 use Rattle.relay_conf.proofs.Findings.{refuses_front, refuses_behind, examines_behind}
 
 -- what is found at an element, by its parts
 parts_found : (parent : Section) (t : Tree) (h : Heading) (s : List Setting) (kids : List Tree) → t ≡ tree h s (trees kids)
-    → tree_found parent t ≡ front_found (opening_in parent (heading_of t).name) (heading_of t) (settings_of t) ++ (trees_found (section_in parent (heading_of t) (settings_of t)) (trees kids) ++ missing_found (section_in parent (heading_of t) (settings_of t)) (heading_of t) (settings_of t) (children_of t))
+    → tree_found parent t ≡ front_found ((profile_of parent).sections (heading_of t).name) (heading_of t) (settings_of t) ++ (trees_found (section_in parent (heading_of t) (settings_of t)) (trees kids) ++ missing_found (section_in parent (heading_of t) (settings_of t)) (heading_of t) (settings_of t) (children_of t))
 parts_found parent t h s kids e = rw e refl
 
 found_is : {A : Type 0} (parent : Section) (e : Element A)
-    → tree_found parent (tree_of e) ≡ front_found (opening_in parent (heading_of (tree_of e)).name) (heading_of (tree_of e)) (settings_of (tree_of e)) ++ (trees_found (section_in parent (heading_of (tree_of e)) (settings_of (tree_of e))) (trees (map tree_of (out-Element A e).children.items)) ++ missing_found (section_in parent (heading_of (tree_of e)) (settings_of (tree_of e))) (heading_of (tree_of e)) (settings_of (tree_of e)) (children_of (tree_of e)))
+    → tree_found parent (tree_of e) ≡ front_found ((profile_of parent).sections (heading_of (tree_of e)).name) (heading_of (tree_of e)) (settings_of (tree_of e)) ++ (trees_found (section_in parent (heading_of (tree_of e)) (settings_of (tree_of e))) (trees (map tree_of (out-Element A e).children.items)) ++ missing_found (section_in parent (heading_of (tree_of e)) (settings_of (tree_of e))) (heading_of (tree_of e)) (settings_of (tree_of e)) (children_of (tree_of e)))
 found_is {A} parent e = parts_found parent (tree_of e) _ _ (map tree_of (out-Element A e).children.items) (tree_of_out e)
 
 -- an error in front of the children
-pub refused_in_front : {A : Type 0} (parent : Section) (e : Element A) (o : Option Opening) (err : RelayError) → o ≡ opening_in parent (heading_of (tree_of e)).name
+pub refused_in_front : {A : Type 0} (parent : Section) (e : Element A) (o : Option Opening) (err : RelayError) → o ≡ (profile_of parent).sections (heading_of (tree_of e)).name
     → Refuses (front_found o (heading_of (tree_of e)) (settings_of (tree_of e))) err → Refuses (tree_found parent (tree_of e)) err
 refused_in_front parent e o err is h = rw (found_is parent e, ← is) (refuses_front _ _ err h)
 
 -- an error in the children
-pub refused_within : {A : Type 0} (parent : Section) (e : Element A) (o : Option Opening) (section : Section) (kids : List (Element A)) (err : RelayError) → o ≡ opening_in parent (heading_of (tree_of e)).name
+pub refused_within : {A : Type 0} (parent : Section) (e : Element A) (o : Option Opening) (section : Section) (kids : List (Element A)) (err : RelayError) → o ≡ (profile_of parent).sections (heading_of (tree_of e)).name
     → section ≡ section_of o (value_of (codes "@type") (settings_of (tree_of e))) → kids ≡ (out-Element A e).children.items
     → AllPass (front_found o (heading_of (tree_of e)) (settings_of (tree_of e))) → Refuses (trees_found section (trees (map tree_of kids))) err → Refuses (tree_found parent (tree_of e)) err
 refused_within parent e o section kids err is is_section are front h =
@@ -37,7 +37,7 @@ refused_within parent e o section kids err is is_section are front h =
     rw (found_is parent e, ← is, ← are) (refuses_behind _ _ err front (refuses_front _ _ err inside))
 
 -- what is missing comes last
-pub examined_last : {A X : Type 0} (parent : Section) (e : Element A) (o : Option Opening) (section : Section) (kids : List (Element A)) (r : Result X RelayError) → o ≡ opening_in parent (heading_of (tree_of e)).name
+pub examined_last : {A X : Type 0} (parent : Section) (e : Element A) (o : Option Opening) (section : Section) (kids : List (Element A)) (r : Result X RelayError) → o ≡ (profile_of parent).sections (heading_of (tree_of e)).name
     → section ≡ section_of o (value_of (codes "@type") (settings_of (tree_of e))) → kids ≡ (out-Element A e).children.items
     → AllPass (front_found o (heading_of (tree_of e)) (settings_of (tree_of e))) → AllPass (trees_found section (trees (map tree_of kids)))
     → Examines (missing_found section (heading_of (tree_of e)) (settings_of (tree_of e)) (children_of (tree_of e))) r → Examines (tree_found parent (tree_of e)) r

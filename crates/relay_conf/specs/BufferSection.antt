@@ -17,30 +17,7 @@ use Rattle.relay_conf.specs.declared.buffer.FlushMode.{FlushMode}
 use Rattle.relay_conf.specs.declared.buffer.FlushMode.TheVariants.{Interval, Immediate}
 use Rattle.relay_conf.specs.declared.buffer.OverflowAction.{OverflowAction}
 use Rattle.relay_conf.specs.declared.buffer.OverflowAction.TheVariants.{ThrowException, DropOldestChunk}
-use Rattle.relay_conf.specs.declared.form.Form.TheVariants as form
 use Rattle.relay_conf.specs.Elements.{last_child, read_or, settings_of, value_of}
-use Rattle.relay_conf.specs.Rows.{NamedForm, row}
-
--- the parameters, beside the type
-abbrev pub buffer_rows : List NamedForm
-buffer_rows =
-    row (codes "path") form.Path
-    ∷ row (codes "flush_mode") form.FlushMode
-    ∷ row (codes "flush_interval") form.Time
-    ∷ row (codes "flush_thread_count") form.Threads
-    ∷ row (codes "flush_at_shutdown") form.Text
-    ∷ row (codes "retry_type") form.RetryType
-    ∷ row (codes "retry_wait") form.Time
-    ∷ row (codes "retry_exponential_backoff_base") form.Number
-    ∷ row (codes "retry_max_interval") form.Time
-    ∷ row (codes "retry_max_times") form.Number
-    ∷ row (codes "retry_timeout") form.Time
-    ∷ row (codes "retry_forever") form.Flag
-    ∷ row (codes "retry_randomize") form.Text
-    ∷ row (codes "overflow_action") form.Overflow
-    ∷ row (codes "chunk_limit_size") form.Size
-    ∷ row (codes "total_limit_size") form.Size
-    ∷ []
 
 -- the default acts as the interval, since tags alone tell chunks apart
 abbrev pub flush_mode_of : List ℕ → Option FlushMode

@@ -1,5 +1,5 @@
 -- The parts of an element, and the values of its parameters.
-use Rattle.std.specs.Prelude.{ℕ, Bool, List, [], ◌∷◌, Option, Some, None, if◌then◌else◌, option_and_then, unwrap_or}
+use Rattle.std.specs.Prelude.{ℕ, Bool, List, [], ◌∷◌, Option, Some, None, is_none, if◌then◌else◌, option_and_then, unwrap_or}
 use Rattle.std.specs.Option.{option_or}
 use Rattle.std.specs.Str.{bytes_eq}
 use Rattle.conf_text.specs.Trees.{Heading, Setting, Tree, tree, Trees, no_trees, more_trees}
@@ -30,6 +30,10 @@ abbrev pub value_of : List ℕ → List Setting → Option (List ℕ)
 value_of name [] = None
 value_of name (s ∷ rest) = option_or (value_of name rest)
     (if bytes_eq s.name name then Some s.value else None)
+
+-- whether no parameter has this name
+abbrev pub lacks : List ℕ → List Setting → Bool
+lacks name settings = is_none (value_of name settings)
 
 -- a value as f reads it, or the default
 abbrev pub read_or : {X : Type 0} → (List ℕ → Option X) → X → Option (List ℕ) → X

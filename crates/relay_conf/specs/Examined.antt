@@ -1,6 +1,6 @@
 -- The faults that the sections of a configuration may have, in the order in which they are looked
 -- for.
-use Rattle.std.specs.Prelude.{ℕ, ◌||◌, ◌&&◌, ◌==◌, not, Bool, true, false, List, [], ◌∷◌, ◌++◌, codes, filter, length, Option, Some, None, is_none, if◌then◌else◌}
+use Rattle.std.specs.Prelude.{ℕ, ◌||◌, ◌&&◌, ◌==◌, not, Bool, true, false, List, [], ◌∷◌, ◌++◌, codes, filter, length, Option, Some, None, if◌then◌else◌}
 use Rattle.std.specs.List.{list_any, flat_map, slice_split}
 use Rattle.std.specs.Option.{option_map_or}
 use Rattle.std.specs.Str.{bytes_eq}
@@ -8,16 +8,13 @@ use Rattle.conf_text.specs.Trees.{Heading, Setting, Tree, tree, Trees, no_trees,
 use Rattle.conf_values.specs.Words.{is_label_name}
 use Rattle.relay_conf.specs.declared.fault.RelayFaultKind.{RelayFaultKind}
 use Rattle.relay_conf.specs.declared.fault.RelayFaultKind.TheVariants as kinds
-use Rattle.relay_conf.specs.declared.form.OutputType.{OutputType}
-use Rattle.relay_conf.specs.declared.form.OutputType.TheVariants as outputs
 use Rattle.relay_conf.specs.declared.section.Section.{Section}
 use Rattle.relay_conf.specs.declared.section.Section.TheVariants as sections
 use Rattle.relay_conf.specs.declared.section.Opening.{Opening}
 use Rattle.relay_conf.specs.declared.section.Opening.TheVariants as opening
-use Rattle.relay_conf.specs.Elements.{value_of, is_named, tree_list}
+use Rattle.relay_conf.specs.Elements.{lacks, value_of, tree_list}
 use Rattle.relay_conf.specs.Words.{output_type_of, store_type_of}
-use Rattle.relay_conf.specs.BufferSection.{has_files}
-use Rattle.relay_conf.specs.Sections.{setting_fault, opening_in, refusal}
+use Rattle.relay_conf.specs.Sections.{profile_of, setting_fault, refusal}
 use Rattle.relay_conf.specs.Findings.{Finding, a_fault, a_pattern}
 
 -- a fault of this line, where there is one
@@ -101,29 +98,6 @@ settings_found section (s ∷ rest) = found_at s.line (setting_fault section s.n
 abbrev pub looked_at : Section → List Setting → List Finding
 looked_at section settings = if is_passed section then [] else settings_found section settings
 
--- whether no parameter has this name
-abbrev pub lacks : List ℕ → List Setting → Bool
-lacks name settings = is_none (value_of name settings)
-
--- whether an output lacks what its type asks for
-abbrev pub output_lacks : OutputType → List Setting → List Tree → Bool
-output_lacks outputs.Forward settings children = not (list_any (is_named (codes "server")) children)
-output_lacks outputs.File settings children = lacks (codes "path") settings
-output_lacks outputs.Copy settings children = not (list_any (is_named (codes "store")) children)
-output_lacks outputs.Relabel settings children = lacks (codes "@label") settings
-output_lacks outputs.Null settings children = false
-
--- whether a section lacks what it must have
-abbrev pub section_lacks : Section → List Setting → List Tree → Bool
-section_lacks sections.Server settings children = lacks (codes "host") settings
-section_lacks sections.Security settings children = lacks (codes "self_hostname") settings
-    || lacks (codes "shared_key") settings
-section_lacks sections.Buffer settings children = has_files settings
-    && lacks (codes "path") settings
-section_lacks (sections.Match (Some kind)) settings children = output_lacks kind settings children
-section_lacks (sections.Store (Some kind)) settings children = output_lacks kind settings children
-section_lacks _ settings children = false
-
 -- what is wrong with a section before its children: its opening, its type, its parameters
 abbrev pub front_found : Option Opening → Heading → List Setting → List Finding
 front_found o h settings =
@@ -133,19 +107,19 @@ front_found o h settings =
 
 -- the section that an element is, in another
 abbrev pub section_in : Section → Heading → List Setting → Section
-section_in parent h settings = section_of (opening_in parent h.name)
+section_in parent h settings = section_of ((profile_of parent).sections h.name)
     (value_of (codes "@type") settings)
 
 -- what is missing in a section
 abbrev pub missing_found : Section → Heading → List Setting → List Tree → List Finding
 missing_found section h settings children =
-    found_if (section_lacks section settings children) kinds.Missing h.line
+    found_if ((profile_of section).lacks settings children) kinds.Missing h.line
 
 -- what is wrong with an element in a section, and with elements one after the other
 abbrev mutual
   pub tree_found : Section → Tree → List Finding
   tree_found parent (tree h settings children) =
-      front_found (opening_in parent h.name) h settings
+      front_found ((profile_of parent).sections h.name) h settings
       ++ (trees_found (section_in parent h settings) children
       ++ missing_found (section_in parent h settings) h settings (tree_list children))
 

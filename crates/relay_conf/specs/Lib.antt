@@ -1,10 +1,10 @@
 pub mod Printed
 pub mod Elements
-pub mod Rows
 pub mod BufferSection
 pub mod Words
-pub mod Forms
 pub mod Sections
+pub mod Forms
+pub mod Rows
 pub mod Findings
 pub mod Examined
 pub mod Labels

@@ -1,23 +1,9 @@
--- Tables of parameters.
-use Rattle.std.specs.Prelude.{ℕ, List, [], ◌∷◌, map, Option, Some, None, if◌then◌else◌}
-use Rattle.std.specs.Str.{bytes_eq}
-use Rattle.relay_conf.specs.declared.form.Form.{Form}
+-- Tables of parameters in the code.
+use Rattle.std.specs.Prelude.{ℕ, List, map}
 use Rattle.relay_conf.specs.declared.rows.Row.{Row}
+use Rattle.relay_conf.specs.Forms.{value_fault}
+use Rattle.relay_conf.specs.Sections.{Check}
 
--- a parameter's name, and what its value must be
-pub record NamedForm : Type 0 where
-  pub name : List ℕ
-  pub form : Form
-
--- a row of a table of parameters
-abbrev pub row : List ℕ → Form → NamedForm
-row name f = record { name = name; form = f }
-
--- the rows of a table in the code
-abbrev pub rows_of : List Row → List NamedForm
-rows_of rows = map (λ r. row r.name.now r.form) rows
-
--- what the row of this name asks for, if there is one
-abbrev pub form_in : List NamedForm → List ℕ → Option Form
-form_in [] name = None
-form_in (r ∷ rows) name = if bytes_eq r.name name then Some r.form else form_in rows name
+-- the rows of a table: of each parameter, its name and what is wrong with its values
+abbrev pub rows_of : List Row → List (List ℕ × Check)
+rows_of rows = map (λ row. (row.name.now, value_fault row.form)) rows

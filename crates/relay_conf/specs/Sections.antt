@@ -1,119 +1,202 @@
 -- The sections of a configuration, and what may stand in each.
-use Rattle.std.specs.Prelude.{ℕ, ◌||◌, List, [], ◌∷◌, codes, Option, Some, None, if◌then◌else◌}
+use Rattle.std.specs.Prelude.{ℕ, ◌||◌, ◌&&◌, not, Bool, false, List, [], ◌∷◌, codes, length, nat_le, Option, Some, None, is_some, if◌then◌else◌}
+use Rattle.std.specs.List.{list_any}
+use Rattle.std.specs.Option.{option_map_or}
 use Rattle.std.specs.Str.{bytes_eq}
+use Rattle.conf_text.specs.Trees.{Setting, Tree}
+use Rattle.conf_values.specs.Numbers.{number_of, port_of}
+use Rattle.conf_values.specs.Amounts.{size_of, seconds_of}
+use Rattle.conf_values.specs.Words.{boolean_of, is_path, has_slash, is_label_name, most_host_bytes}
+use Rattle.tag_pattern.specs.Prefixes.{is_prefix}
 use Rattle.relay_conf.specs.declared.fault.RelayFaultKind.{RelayFaultKind}
 use Rattle.relay_conf.specs.declared.fault.RelayFaultKind.TheVariants as kinds
-use Rattle.relay_conf.specs.declared.form.Form.{Form}
-use Rattle.relay_conf.specs.declared.form.Form.TheVariants as form
 use Rattle.relay_conf.specs.declared.form.OutputType.{OutputType}
 use Rattle.relay_conf.specs.declared.form.OutputType.TheVariants as outputs
 use Rattle.relay_conf.specs.declared.section.Section.{Section}
 use Rattle.relay_conf.specs.declared.section.Section.TheVariants as sections
 use Rattle.relay_conf.specs.declared.section.Opening.{Opening}
 use Rattle.relay_conf.specs.declared.section.Opening.TheVariants as opening
-use Rattle.relay_conf.specs.Rows.{NamedForm, form_in, row}
-use Rattle.relay_conf.specs.BufferSection.{buffer_rows}
-use Rattle.relay_conf.specs.Forms.{value_fault}
+use Rattle.relay_conf.specs.BufferSection.{flush_mode_of, has_files, is_file_of, overflow_of, threads_of}
+use Rattle.relay_conf.specs.Elements.{is_named, lacks}
+use Rattle.relay_conf.specs.Words.{output_type_of, store_type_of}
 
--- the parameters of an output of this type (Fluentd, out_forward, out_file, out_copy, out_relabel,
--- out_null)
-abbrev pub output_rows : OutputType → List NamedForm
-output_rows outputs.Forward =
-    row (codes "require_ack_response") form.Flag
-    ∷ row (codes "ack_response_timeout") form.Time
-    ∷ row (codes "send_timeout") form.Time
-    ∷ row (codes "recover_wait") form.Time
-    ∷ row (codes "hard_timeout") form.Time
-    ∷ []
-output_rows outputs.File = row (codes "path") form.Path ∷ []
-output_rows outputs.Relabel = row (codes "@label") form.Target ∷ []
-output_rows _ = []
+-- what is wrong with a value, if anything
+abbrev pub Check : Type 0
+Check = List ℕ → Option RelayFaultKind
 
--- the parameters of a section, without its type (Fluentd, in_forward, out_forward); what
--- `add_tag_prefix` may be is chosen here
-abbrev pub section_rows : Section → List NamedForm
-section_rows sections.Source =
-    row (codes "port") form.Port
-    ∷ row (codes "bind") form.Text
-    ∷ row (codes "@label") form.Target
-    ∷ row (codes "add_tag_prefix") form.Prefix
-    ∷ []
-section_rows sections.Server =
-    row (codes "host") form.Text
-    ∷ row (codes "port") form.Port
-    ∷ row (codes "name") form.Text
-    ∷ row (codes "weight") form.Text
-    ∷ row (codes "standby") form.Text
-    ∷ []
-section_rows sections.Security =
-    row (codes "self_hostname") form.HostName
-    ∷ row (codes "shared_key") form.Text
-    ∷ []
-section_rows sections.Buffer = buffer_rows
-section_rows (sections.Match (Some kind)) = output_rows kind
-section_rows (sections.Store (Some kind)) = output_rows kind
-section_rows _ = []
+-- any text may stand
+abbrev pub any_text : Check
+any_text text = None
 
--- what the type of a section must be, if it has one
-abbrev pub type_form : Section → Option Form
-type_form sections.Source = Some form.SourceType
-type_form sections.Buffer = Some form.BufferType
-type_form (sections.Match kind) = Some form.MatchType
-type_form (sections.Store kind) = Some form.StoreType
-type_form _ = None
+-- whether a text is read as something
+abbrev pub reads : {X : Type 0} → (List ℕ → Option X) → List ℕ → Bool
+reads f text = is_some (f text)
 
--- the parameters beside the type: where the type isn't known, nothing is asked of them
-abbrev pub other_form : Section → List ℕ → Option Form
-other_form (sections.Match None) name = Some form.Text
-other_form (sections.Store None) name = Some form.Text
-other_form section name = form_in (section_rows section) name
+-- a value that doesn't pass is bad
+abbrev pub bad_unless : (List ℕ → Bool) → Check
+bad_unless good text = if good text then None else Some kinds.BadValue
 
--- what is wrong with a value, where it must be of this form, or where the section has no such name
-abbrev pub form_fault : Option Form → List ℕ → Option RelayFaultKind
-form_fault None value = Some kinds.UnknownParameter
-form_fault (Some f) value = value_fault f value
+-- a word that Fluentd may have, and this project doesn't
+abbrev pub outside_unless : (List ℕ → Bool) → Check
+outside_unless known text = if known text then None else Some kinds.OutOfProfile
 
--- what is wrong with a parameter of this name and value in this section, if anything
+-- a path has no `/` here, and is short and plain
+abbrev pub path_fault : Check
+path_fault text = if has_slash text then Some kinds.OutOfProfile else bad_unless is_path text
+
+-- events go to a label of the configuration, never to one of Fluentd's own
+abbrev pub target_fault : Check
+target_fault text =
+    if bytes_eq text (codes "@ROOT") || bytes_eq text (codes "@ERROR") then Some kinds.OutOfProfile
+    else bad_unless is_label_name text
+
+-- what the row of this name has, if there is one
+abbrev pub among : {X : Type 0} → List (List ℕ × X) → List ℕ → Option X
+among [] name = None
+among (row ∷ rows) name = if bytes_eq name row.0 then Some row.1 else among rows name
+
+-- What may stand in a section: its type, if it has one, its other parameters, and the sections in
+-- it, each by its name; and whether it lacks what it must have.
+pub record Profile : Type 0 where
+  pub type : Option Check
+  pub parameters : List ℕ → Option Check
+  pub sections : List ℕ → Option Opening
+  pub lacks : List Setting → List Tree → Bool
+
+-- nothing may stand there
+abbrev pub nothing : Profile
+nothing = record {
+  type = None;
+  parameters = λ name. None;
+  sections = λ name. None;
+  lacks = λ settings children. false;
+}
+
+-- anything may stand in what is passed over
+abbrev pub passed : Profile
+passed = record nothing {
+  parameters = λ name. Some any_text;
+  sections = λ name. Some (opening.Plain sections.Passed);
+}
+
+-- an output of this type (Fluentd, out_forward, out_file, out_copy, out_relabel, out_null)
+abbrev pub output_profile : OutputType → Profile
+output_profile outputs.Forward = record nothing {
+  parameters = among
+      ((codes "require_ack_response", bad_unless (reads boolean_of))
+      ∷ (codes "ack_response_timeout", bad_unless (reads seconds_of))
+      ∷ (codes "send_timeout", bad_unless (reads seconds_of))
+      ∷ (codes "recover_wait", bad_unless (reads seconds_of))
+      ∷ (codes "hard_timeout", bad_unless (reads seconds_of))
+      ∷ []);
+  sections = among
+      ((codes "server", opening.Plain sections.Server)
+      ∷ (codes "buffer", opening.Plain sections.Buffer)
+      ∷ (codes "security", opening.Plain sections.Security)
+      ∷ []);
+  lacks = λ settings children. not (list_any (is_named (codes "server")) children);
+}
+output_profile outputs.File = record nothing {
+  parameters = among ((codes "path", path_fault) ∷ []);
+  sections = among ((codes "buffer", opening.Plain sections.Buffer) ∷ []);
+  lacks = λ settings children. lacks (codes "path") settings;
+}
+output_profile outputs.Copy = record nothing {
+  sections = among ((codes "store", opening.Store) ∷ []);
+  lacks = λ settings children. not (list_any (is_named (codes "store")) children);
+}
+output_profile outputs.Relabel = record nothing {
+  parameters = among ((codes "@label", target_fault) ∷ []);
+  lacks = λ settings children. lacks (codes "@label") settings;
+}
+output_profile outputs.Null = nothing
+
+-- A section (Fluentd, in_forward, out_forward, "Config: Buffer Section"). The parameters outside
+-- every section have an empty name; what `add_tag_prefix` may be is chosen here; where the type of
+-- a match or a store isn't known, nothing but the type is asked.
+abbrev pub profile_of : Section → Profile
+profile_of sections.Top = record nothing {
+  sections = among
+      (([], opening.Plain sections.Outside)
+      ∷ (codes "source", opening.Plain sections.Source)
+      ∷ (codes "match", opening.Match)
+      ∷ (codes "label", opening.Plain sections.Label)
+      ∷ (codes "system", opening.Plain sections.Passed)
+      ∷ []);
+}
+profile_of sections.Passed = passed
+profile_of sections.Outside = nothing
+profile_of sections.Source = record nothing {
+  type = Some (outside_unless (λ text. bytes_eq text (codes "forward")));
+  parameters = among
+      ((codes "port", bad_unless (reads port_of))
+      ∷ (codes "bind", any_text)
+      ∷ (codes "@label", target_fault)
+      ∷ (codes "add_tag_prefix", bad_unless is_prefix)
+      ∷ []);
+  sections = among ((codes "security", opening.Plain sections.Security) ∷ []);
+}
+profile_of sections.Label = record nothing {
+  sections = among ((codes "match", opening.Match) ∷ []);
+}
+profile_of sections.Server = record nothing {
+  parameters = among
+      ((codes "host", any_text)
+      ∷ (codes "port", bad_unless (reads port_of))
+      ∷ (codes "name", any_text)
+      ∷ (codes "weight", any_text)
+      ∷ (codes "standby", any_text)
+      ∷ []);
+  lacks = λ settings children. lacks (codes "host") settings;
+}
+profile_of sections.Security = record nothing {
+  parameters = among
+      ((codes "self_hostname", bad_unless (λ text. nat_le (length text) most_host_bytes))
+      ∷ (codes "shared_key", any_text)
+      ∷ []);
+  lacks = λ settings children. lacks (codes "self_hostname") settings
+      || lacks (codes "shared_key") settings;
+}
+profile_of sections.Buffer = record nothing {
+  type = Some (outside_unless (reads is_file_of));
+  parameters = among
+      ((codes "path", path_fault)
+      ∷ (codes "flush_mode", outside_unless (reads flush_mode_of))
+      ∷ (codes "flush_interval", bad_unless (reads seconds_of))
+      ∷ (codes "flush_thread_count", bad_unless (reads threads_of))
+      ∷ (codes "flush_at_shutdown", any_text)
+      ∷ (codes "retry_type", outside_unless (λ text. bytes_eq text (codes "exponential_backoff")))
+      ∷ (codes "retry_wait", bad_unless (reads seconds_of))
+      ∷ (codes "retry_exponential_backoff_base", bad_unless (reads number_of))
+      ∷ (codes "retry_max_interval", bad_unless (reads seconds_of))
+      ∷ (codes "retry_max_times", bad_unless (reads number_of))
+      ∷ (codes "retry_timeout", bad_unless (reads seconds_of))
+      ∷ (codes "retry_forever", bad_unless (reads boolean_of))
+      ∷ (codes "retry_randomize", any_text)
+      ∷ (codes "overflow_action", outside_unless (reads overflow_of))
+      ∷ (codes "chunk_limit_size", bad_unless (reads size_of))
+      ∷ (codes "total_limit_size", bad_unless (reads size_of))
+      ∷ []);
+  lacks = λ settings children. has_files settings && lacks (codes "path") settings;
+}
+profile_of (sections.Match kind) = record (option_map_or output_profile kind passed) {
+  type = Some (outside_unless (reads output_type_of));
+}
+profile_of (sections.Store kind) = record (option_map_or output_profile kind passed) {
+  type = Some (outside_unless (reads store_type_of));
+}
+
+-- What is wrong with a parameter of this name and value in this section, if anything. What is
+-- passed over isn't looked at.
 abbrev pub setting_fault : Section → List ℕ → List ℕ → Option RelayFaultKind
+setting_fault sections.Passed name value = None
 setting_fault section name value =
     if bytes_eq name (codes "@id") || bytes_eq name (codes "@log_level") then None
     else (if bytes_eq name (codes "@include") then Some kinds.OutOfProfile
-    else form_fault
-    (if bytes_eq name (codes "@type") then type_form section else other_form section name) value)
-
--- the opening, where the name is that one
-abbrev pub only_opening : List ℕ → List ℕ → Opening → Option Opening
-only_opening name wanted o = if bytes_eq name wanted then Some o else None
-
--- the sections in an output
-abbrev pub output_opening : OutputType → List ℕ → Option Opening
-output_opening outputs.Forward name =
-    if bytes_eq name (codes "server") then Some (opening.Plain sections.Server)
-    else (if bytes_eq name (codes "buffer") then Some (opening.Plain sections.Buffer)
-    else only_opening name (codes "security") (opening.Plain sections.Security))
-output_opening outputs.File name = only_opening name (codes "buffer")
-    (opening.Plain sections.Buffer)
-output_opening outputs.Copy name = only_opening name (codes "store") opening.Store
-output_opening _ name = None
-
--- what a section of this name is in another, if it may stand there; the parameters outside every
--- section have an empty name
-abbrev pub opening_in : Section → List ℕ → Option Opening
-opening_in sections.Top name =
-    if bytes_eq name [] then Some (opening.Plain sections.Outside)
-    else (if bytes_eq name (codes "source") then Some (opening.Plain sections.Source)
-    else (if bytes_eq name (codes "match") then Some opening.Match
-    else (if bytes_eq name (codes "label") then Some (opening.Plain sections.Label)
-    else only_opening name (codes "system") (opening.Plain sections.Passed))))
-opening_in sections.Source name = only_opening name (codes "security")
-    (opening.Plain sections.Security)
-opening_in sections.Label name = only_opening name (codes "match") opening.Match
-opening_in (sections.Match (Some kind)) name = output_opening kind name
-opening_in (sections.Store (Some kind)) name = output_opening kind name
-opening_in sections.Passed name = Some (opening.Plain sections.Passed)
-opening_in (sections.Match None) name = Some (opening.Plain sections.Passed)
-opening_in (sections.Store None) name = Some (opening.Plain sections.Passed)
-opening_in _ name = None
+    else option_map_or (λ check. check value)
+    (if bytes_eq name (codes "@type") then (profile_of section).type
+    else (profile_of section).parameters name)
+    (Some kinds.UnknownParameter))
 
 -- what is wrong with a section that may not stand where it does: Fluentd's other sections are out
 -- of the profile

@@ -5,9 +5,10 @@ ghost use Rattle.std.specs.List.{list_any};
 ghost use Rattle.std.specs.Option.{option_copied};
 ghost use Rattle.conf_text.specs.Views.{setting, tree_of};
 ghost use Rattle.conf_text.specs.Trees.{trees};
-ghost use Rattle.relay_conf.specs.Elements.{heading_of, settings_of, value_of, is_named};
+ghost use Rattle.relay_conf.specs.Elements.{heading_of, settings_of, value_of, is_named, lacks};
 ghost use Rattle.relay_conf.specs.Findings.{Examines};
-ghost use Rattle.relay_conf.specs.Examined.{found_if, needs_type, section_of, is_passed, settings_found, looked_at, lacks, output_lacks, section_lacks, front_found, opening_found, tree_found};
+ghost use Rattle.relay_conf.specs.Examined.{found_if, needs_type, section_of, is_passed, settings_found, looked_at, front_found, opening_found, tree_found};
+ghost use Rattle.relay_conf.specs.Sections.{output_profile, profile_of};
 ghost use Rattle.std.specs.Str.{bytes_eq};
 
 use crate::buffer::has_files;
@@ -174,7 +175,8 @@ fn is_passed(section: Section) -> bool
 
 // Whether a section lacks what it must have.
 fn section_lacks<A: Allocator>(section: Section, pairs: &[Pair<A>], children: &[Element<A>]) -> bool
-    ensures { result ≡ section_lacks section (map setting pairs.now) (map tree_of children.now) }
+    ensures { result
+        ≡ (profile_of section).lacks (map setting pairs.now) (map tree_of children.now) }
 {
     match section {
         Section::Server => lacks(pairs, "host"),
@@ -188,7 +190,8 @@ fn section_lacks<A: Allocator>(section: Section, pairs: &[Pair<A>], children: &[
 }
 
 fn output_lacks<A: Allocator>(kind: OutputType, pairs: &[Pair<A>], children: &[Element<A>]) -> bool
-    ensures { result ≡ output_lacks kind (map setting pairs.now) (map tree_of children.now) }
+    ensures { result
+        ≡ (output_profile kind).lacks (map setting pairs.now) (map tree_of children.now) }
 {
     match kind {
         OutputType::Forward => lacks_child(children, "server"),

@@ -1,9 +1,10 @@
 //! What a parameter's value must be.
 
-ghost use Rattle.std.specs.Prelude.{◌≡◌, length, nat_le, Some, ◌||◌};
+ghost use Rattle.std.specs.Prelude.{◌≡◌, length, nat_le, None, Some, if◌then◌else◌};
 ghost use Rattle.relay_conf.specs.Words.{output_type_of, store_type_of};
-ghost use Rattle.relay_conf.specs.Forms.{value_fault, bad_unless, outside_unless, IsWordForm};
-ghost use Rattle.conf_values.specs.Words.{most_host_bytes, has_slash, is_path, is_label_name};
+ghost use Rattle.relay_conf.specs.Forms.{value_fault, IsWordForm};
+ghost use Rattle.relay_conf.specs.Sections.{path_fault, target_fault};
+ghost use Rattle.conf_values.specs.Words.{most_host_bytes};
 
 use crate::buffer::{flush_mode, is_file, overflow, threads};
 use crate::fault::RelayFaultKind;
@@ -108,7 +109,7 @@ fn word_fault(form: Form, value: &str) -> Option<RelayFaultKind>
 
 // A bad value, unless it is a good one.
 fn bad_unless(good: bool) -> Option<RelayFaultKind>
-    ensures { result ≡ bad_unless good }
+    ensures { result ≡ (if good then None else Some RelayFaultKind.BadValue) }
 {
     if good {
         None
@@ -119,7 +120,7 @@ fn bad_unless(good: bool) -> Option<RelayFaultKind>
 
 // Out of the profile, unless it is in it.
 fn outside_unless(known: bool) -> Option<RelayFaultKind>
-    ensures { result ≡ outside_unless known }
+    ensures { result ≡ (if known then None else Some RelayFaultKind.OutOfProfile) }
 {
     if known {
         None
@@ -130,7 +131,7 @@ fn outside_unless(known: bool) -> Option<RelayFaultKind>
 
 // The fault of a path, if it has one.
 fn path_fault(path: &[u8]) -> Option<RelayFaultKind>
-    ensures { result ≡ value_fault Form.Path path.now }
+    ensures { result ≡ path_fault path.now }
 {
     if has_slash(path) {
         return Some(RelayFaultKind::OutOfProfile);
@@ -140,7 +141,7 @@ fn path_fault(path: &[u8]) -> Option<RelayFaultKind>
 
 // The fault of a label that events go to, if it has one.
 fn target_fault(label: &str) -> Option<RelayFaultKind>
-    ensures { result ≡ value_fault Form.Target label.now }
+    ensures { result ≡ target_fault label.now }
 {
     if label == "@ROOT" || label == "@ERROR" {
         return Some(RelayFaultKind::OutOfProfile);

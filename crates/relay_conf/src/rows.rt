@@ -1,7 +1,10 @@
 //! The tables of parameters that a section has one of.
 
 ghost use Rattle.std.specs.Prelude.{◌≡◌};
-ghost use Rattle.relay_conf.specs.Rows.{form_in, rows_of};
+ghost use Rattle.std.specs.Option.{option_map};
+ghost use Rattle.relay_conf.specs.Forms.{value_fault};
+ghost use Rattle.relay_conf.specs.Rows.{rows_of};
+ghost use Rattle.relay_conf.specs.Sections.{among};
 
 use crate::form::Form;
 
@@ -13,10 +16,10 @@ pub(crate) struct Row {
 
 /// The form that the row of this name gives.
 pub(crate) fn form_in(rows: &[Row], name: &str) -> Option<Form>
-    ensures { result ≡ form_in (rows_of rows.now) name.now }
+    ensures { option_map value_fault result ≡ among (rows_of rows.now) name.now }
 {
     for row in rows {
-        if row.name == name {
+        if name == row.name {
             return Some(row.form);
         }
     }

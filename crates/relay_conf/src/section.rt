@@ -1,9 +1,10 @@
 //! The sections of a configuration, and what may stand in each.
 
-ghost use Rattle.std.specs.Prelude.{◌≡◌, codes, Some, if◌then◌else◌};
-ghost use Rattle.relay_conf.specs.Rows.{rows_of};
-ghost use Rattle.relay_conf.specs.Sections.{section_rows, output_rows, type_form, setting_fault, form_fault, opening_in, output_opening, only_opening, refusal, other_form};
+ghost use Rattle.std.specs.Prelude.{◌≡◌, codes, None, Some, if◌then◌else◌};
+ghost use Rattle.std.specs.Option.{option_map, option_map_or};
 ghost use Rattle.std.specs.Str.{bytes_eq};
+ghost use Rattle.relay_conf.specs.Forms.{value_fault};
+ghost use Rattle.relay_conf.specs.Sections.{output_profile, profile_of, setting_fault, refusal};
 
 use crate::buffer::BUFFER_ROWS;
 use crate::fault::RelayFaultKind;
@@ -127,10 +128,14 @@ static RELABEL_ROWS: [Row; 1] = [Row {
     form: Form::Target,
 }];
 
-/// What is wrong with a parameter of this name and value in this section, if anything.
+/// What is wrong with a parameter of this name and value in this section, if anything. What is
+/// passed over isn't looked at.
 pub(crate) fn setting_fault(section: Section, name: &str, value: &str) -> Option<RelayFaultKind>
     ensures { result ≡ setting_fault section name.now value.now }
 {
+    if let Section::Passed = section {
+        return None;
+    }
     if name == "@id" || name == "@log_level" {
         return None;
     }
@@ -141,7 +146,9 @@ pub(crate) fn setting_fault(section: Section, name: &str, value: &str) -> Option
 }
 
 fn form_fault(form: Option<Form>, value: &str) -> Option<RelayFaultKind>
-    ensures { result ≡ form_fault form value.now }
+    ensures { result
+        ≡ option_map_or (λ check. check value.now) (option_map value_fault form)
+        (Some RelayFaultKind.UnknownParameter) }
 {
     match form {
         None => Some(RelayFaultKind::UnknownParameter),
@@ -151,22 +158,19 @@ fn form_fault(form: Option<Form>, value: &str) -> Option<RelayFaultKind>
 
 // What the value of this name must be, if the section has it.
 fn form_of(section: Section, name: &str) -> Option<Form>
-    ensures { result
-        ≡ (if bytes_eq name.now (codes "@type") then type_form section
-        else other_form section name.now) }
+    ensures { option_map value_fault result
+        ≡ (if bytes_eq name.now (codes "@type") then (profile_of section).type
+        else (profile_of section).parameters name.now) }
 {
     if name == "@type" {
         return type_form(section);
     }
-    match section {
-        Section::Match(None) | Section::Store(None) => Some(Form::Text),
-        _ => form_in(section_rows(section), name),
-    }
+    parameter_form(section, name)
 }
 
 // What the type of a section must be, if it has one.
 fn type_form(section: Section) -> Option<Form>
-    ensures { result ≡ type_form section }
+    ensures { option_map value_fault result ≡ (profile_of section).type }
 {
     match section {
         Section::Source => Some(Form::SourceType),
@@ -177,35 +181,36 @@ fn type_form(section: Section) -> Option<Form>
     }
 }
 
-// The parameters of a section, without its type.
-fn section_rows(section: Section) -> &'static [Row]
-    ensures { rows_of result.now ≡ section_rows section }
+// What the value of this name must be, if it is a parameter of the section beside its type.
+fn parameter_form(section: Section, name: &str) -> Option<Form>
+    ensures { option_map value_fault result ≡ (profile_of section).parameters name.now }
 {
     match section {
-        Section::Source => &SOURCE_ROWS,
-        Section::Server => &SERVER_ROWS,
-        Section::Security => &SECURITY_ROWS,
-        Section::Buffer => &BUFFER_ROWS,
-        Section::Match(Some(kind)) | Section::Store(Some(kind)) => output_rows(kind),
-        _ => &[],
+        Section::Source => form_in(&SOURCE_ROWS, name),
+        Section::Server => form_in(&SERVER_ROWS, name),
+        Section::Security => form_in(&SECURITY_ROWS, name),
+        Section::Buffer => form_in(&BUFFER_ROWS, name),
+        Section::Match(Some(kind)) | Section::Store(Some(kind)) => output_form(kind, name),
+        Section::Passed | Section::Match(None) | Section::Store(None) => Some(Form::Text),
+        _ => None,
     }
 }
 
-// The parameters of an output, without its type.
-fn output_rows(kind: OutputType) -> &'static [Row]
-    ensures { rows_of result.now ≡ output_rows kind }
+// What the value of this name must be, if it is a parameter of the output beside its type.
+fn output_form(kind: OutputType, name: &str) -> Option<Form>
+    ensures { option_map value_fault result ≡ (output_profile kind).parameters name.now }
 {
     match kind {
-        OutputType::Forward => &FORWARD_ROWS,
-        OutputType::File => &FILE_ROWS,
-        OutputType::Relabel => &RELABEL_ROWS,
-        OutputType::Copy | OutputType::Null => &[],
+        OutputType::Forward => form_in(&FORWARD_ROWS, name),
+        OutputType::File => form_in(&FILE_ROWS, name),
+        OutputType::Relabel => form_in(&RELABEL_ROWS, name),
+        OutputType::Copy | OutputType::Null => None,
     }
 }
 
 /// What a section of this name is in this one, if it may stand there.
 pub(crate) fn opening_in(parent: Section, name: &str) -> Option<Opening>
-    ensures { result ≡ opening_in parent name.now }
+    ensures { result ≡ (profile_of parent).sections name.now }
 {
     match parent {
         Section::Top => top_opening(name),
@@ -220,7 +225,7 @@ pub(crate) fn opening_in(parent: Section, name: &str) -> Option<Opening>
 }
 
 fn output_opening(kind: OutputType, name: &str) -> Option<Opening>
-    ensures { result ≡ output_opening kind name.now }
+    ensures { result ≡ (output_profile kind).sections name.now }
 {
     match kind {
         OutputType::Forward => forward_opening(name),
@@ -231,7 +236,7 @@ fn output_opening(kind: OutputType, name: &str) -> Option<Opening>
 }
 
 fn top_opening(name: &str) -> Option<Opening>
-    ensures { result ≡ opening_in Section.Top name.now }
+    ensures { result ≡ (profile_of Section.Top).sections name.now }
 {
     if name == "" {
         return Some(Opening::Plain(Section::Outside));
@@ -249,7 +254,7 @@ fn top_opening(name: &str) -> Option<Opening>
 }
 
 fn forward_opening(name: &str) -> Option<Opening>
-    ensures { result ≡ output_opening OutputType.Forward name.now }
+    ensures { result ≡ (output_profile OutputType.Forward).sections name.now }
 {
     if name == "server" {
         return Some(Opening::Plain(Section::Server));
@@ -262,7 +267,7 @@ fn forward_opening(name: &str) -> Option<Opening>
 
 // The opening, where the name is that one.
 fn only(name: &str, wanted: &str, opening: Opening) -> Option<Opening>
-    ensures { result ≡ only_opening name.now wanted.now opening }
+    ensures { result ≡ (if bytes_eq name.now wanted.now then Some opening else None) }
 {
     if name == wanted { Some(opening) } else { None }
 }
