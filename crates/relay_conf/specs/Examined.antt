@@ -1,8 +1,8 @@
 -- The faults that the sections of a configuration may have, in the order in which they are looked
 -- for.
-use Rattle.std.specs.Prelude.{ℕ, ◌||◌, ◌&&◌, ◌==◌, not, Bool, true, false, List, [], ◌∷◌, ◌++◌, codes, filter, length, Option, Some, None, if◌then◌else◌}
-use Rattle.std.specs.List.{list_any, flat_map, slice_split}
-use Rattle.std.specs.Option.{option_map_or}
+use Rattle.std.specs.Prelude.{ℕ, ◌||◌, ◌&&◌, ◌==◌, not, Bool, true, false, List, [], ◌∷◌, ◌++◌, codes, filter, length, map, Option, Some, None, if◌then◌else◌}
+use Rattle.std.specs.List.{list_any, filter_map, flat_map, slice_split}
+use Rattle.std.specs.Option.{option_map, option_map_or}
 use Rattle.std.specs.Str.{bytes_eq}
 use Rattle.conf_text.specs.Trees.{Heading, Setting, Tree, tree, Trees, no_trees, more_trees}
 use Rattle.conf_values.specs.Words.{is_label_name}
@@ -16,11 +16,6 @@ use Rattle.relay_conf.specs.Elements.{lacks, value_of, tree_list}
 use Rattle.relay_conf.specs.Words.{output_type_of, store_type_of}
 use Rattle.relay_conf.specs.Sections.{profile_of, setting_fault, refusal}
 use Rattle.relay_conf.specs.Findings.{Finding, a_fault, a_pattern}
-
--- a fault of this line, where there is one
-abbrev pub found_at : ℕ → Option RelayFaultKind → List Finding
-found_at line None = []
-found_at line (Some kind) = a_fault kind line ∷ []
 
 -- a fault of this line, where the test holds
 abbrev pub found_if : Bool → RelayFaultKind → ℕ → List Finding
@@ -43,16 +38,11 @@ abbrev pub begins_with_slash : List ℕ → Bool
 begins_with_slash [] = false
 begins_with_slash (b ∷ rest) = b == 47
 
--- each of the texts must be a pattern
-abbrev pub patterns_in : ℕ → List (List ℕ) → List Finding
-patterns_in line [] = []
-patterns_in line (word ∷ words) = a_pattern word line ∷ patterns_in line words
-
--- a match has patterns, none of which begins with `/`
+-- a match has words, none of which begins with `/`, and each must be a pattern
 abbrev pub patterns_found : List (List ℕ) → ℕ → List Finding
 patterns_found words line =
     found_if (length words == 0 || list_any begins_with_slash words) kinds.OutOfProfile line
-    ++ patterns_in line words
+    ++ map (λ word. a_pattern word line) words
 
 -- What is wrong with the way a section opens, by its place, name and argument. A buffer's chunk key
 -- is the tag, written or not.
@@ -83,27 +73,17 @@ section_of (Some opening.Match) kind = option_map_or (λ k. sections.Match (outp
 section_of (Some opening.Store) kind = option_map_or (λ k. sections.Store (store_type_of k)) kind
     sections.Passed
 
--- what is passed over isn't looked at
-abbrev pub is_passed : Section → Bool
-is_passed sections.Passed = true
-is_passed _ = false
-
 -- what is wrong with the parameters of a section
 abbrev pub settings_found : Section → List Setting → List Finding
-settings_found section [] = []
-settings_found section (s ∷ rest) = found_at s.line (setting_fault section s.name s.value)
-    ++ settings_found section rest
-
--- the same, where the section isn't passed over
-abbrev pub looked_at : Section → List Setting → List Finding
-looked_at section settings = if is_passed section then [] else settings_found section settings
+settings_found section settings = filter_map
+    (λ s. option_map (λ kind. a_fault kind s.line) (setting_fault section s.name s.value)) settings
 
 -- what is wrong with a section before its children: its opening, its type, its parameters
 abbrev pub front_found : Option Opening → Heading → List Setting → List Finding
 front_found o h settings =
     opening_found o h
     ++ (found_if (needs_type o && lacks (codes "@type") settings) kinds.Missing h.line
-    ++ looked_at (section_of o (value_of (codes "@type") settings)) settings)
+    ++ settings_found (section_of o (value_of (codes "@type") settings)) settings)
 
 -- the section that an element is, in another
 abbrev pub section_in : Section → Heading → List Setting → Section

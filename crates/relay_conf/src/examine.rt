@@ -7,7 +7,7 @@ ghost use Rattle.conf_text.specs.Views.{setting, tree_of};
 ghost use Rattle.conf_text.specs.Trees.{trees};
 ghost use Rattle.relay_conf.specs.Elements.{heading_of, settings_of, value_of, is_named, lacks};
 ghost use Rattle.relay_conf.specs.Findings.{Examines};
-ghost use Rattle.relay_conf.specs.Examined.{found_if, needs_type, section_of, is_passed, settings_found, looked_at, front_found, opening_found, tree_found};
+ghost use Rattle.relay_conf.specs.Examined.{found_if, needs_type, section_of, settings_found, front_found, opening_found, tree_found};
 ghost use Rattle.relay_conf.specs.Sections.{output_profile, profile_of};
 ghost use Rattle.std.specs.Str.{bytes_eq};
 
@@ -62,7 +62,7 @@ fn examine_front<A: Allocator + Copy>(
         line_of(element),
     )?;
     let section = section_of(opening, value_of(pairs, "@type"));
-    look_at(section, pairs)?;
+    examine_settings(section, pairs)?;
     Ok(section)
 }
 
@@ -91,16 +91,6 @@ fn examine_opening<A: Allocator + Copy>(
         ),
         Some(_) => Ok(()),
     }
-}
-
-// Goes through the parameters of a section, unless it is passed over.
-fn look_at<A: Allocator>(section: Section, pairs: &[Pair<A>]) -> Result<(), RelayError>
-    ensures { Examines (looked_at section (map setting pairs.now)) result }
-{
-    if is_passed(section) {
-        return Ok(());
-    }
-    examine_settings(section, pairs)
 }
 
 // Goes through the parameters of a section.
@@ -161,15 +151,6 @@ fn section_of(opening: Option<Opening>, kind: Option<&str>) -> Section
         (Some(Opening::Match), Some(kind)) => Section::Match(output_type(kind)),
         (Some(Opening::Store), Some(kind)) => Section::Store(store_type(kind)),
         _ => Section::Passed,
-    }
-}
-
-fn is_passed(section: Section) -> bool
-    ensures { result ≡ is_passed section }
-{
-    match section {
-        Section::Passed => true,
-        _ => false,
     }
 }
 

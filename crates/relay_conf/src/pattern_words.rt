@@ -3,7 +3,7 @@
 ghost use Rattle.std.specs.Prelude.{◌≡◌, ◌∷◌, [], ◌++◌, map, IfOk, OnOk, length, ◌==◌};
 ghost use Rattle.std.specs.List.{list_any};
 ghost use Rattle.relay_conf.specs.Findings.{Examines, a_pattern};
-ghost use Rattle.relay_conf.specs.Examined.{words_of, tab_words, patterns_found, patterns_in, begins_with_slash};
+ghost use Rattle.relay_conf.specs.Examined.{words_of, tab_words, patterns_found, begins_with_slash};
 
 use crate::fault::{RelayError, RelayFault, RelayFaultKind};
 use std::alloc::{AllocError, Allocator};
@@ -57,7 +57,8 @@ fn are_patterns<A: Allocator + Copy>(
     words: &[&str],
     line: usize,
 ) -> Result<(), RelayError>
-    ensures { Examines (patterns_in line (map (λ word. word.now) words.now)) result }
+    ensures { Examines
+        (map (λ word. a_pattern word line) (map (λ word. word.now) words.now)) result }
 {
     for word in words {
         is_pattern(alloc, word, line)?;
