@@ -17,6 +17,7 @@ use Rattle.relay_conf.specs.declared.buffer.FlushMode.{FlushMode}
 use Rattle.relay_conf.specs.declared.buffer.FlushMode.TheVariants.{Interval, Immediate}
 use Rattle.relay_conf.specs.declared.buffer.OverflowAction.{OverflowAction}
 use Rattle.relay_conf.specs.declared.buffer.OverflowAction.TheVariants.{ThrowException, DropOldestChunk}
+use Rattle.relay_conf.specs.Checks.{Check, any_text, among, bad_unless, outside_unless, path_fault, reads}
 use Rattle.relay_conf.specs.Elements.{last_child, read_or, settings_of, value_of}
 
 -- the default acts as the interval, since tags alone tell chunks apart
@@ -43,6 +44,27 @@ is_file_of text = if bytes_eq text (codes "file") then Some true
 abbrev pub has_files : List Setting → Bool
 has_files settings = unwrap_or (option_and_then is_file_of (value_of (codes "@type") settings))
     false
+
+-- the parameters, beside the type
+abbrev pub buffer_parameters : List ℕ → Option Check
+buffer_parameters = among
+    ((codes "path", path_fault)
+    ∷ (codes "flush_mode", outside_unless (reads flush_mode_of))
+    ∷ (codes "flush_interval", bad_unless (reads seconds_of))
+    ∷ (codes "flush_thread_count", bad_unless (reads threads_of))
+    ∷ (codes "flush_at_shutdown", any_text)
+    ∷ (codes "retry_type", outside_unless (λ text. bytes_eq text (codes "exponential_backoff")))
+    ∷ (codes "retry_wait", bad_unless (reads seconds_of))
+    ∷ (codes "retry_exponential_backoff_base", bad_unless (reads number_of))
+    ∷ (codes "retry_max_interval", bad_unless (reads seconds_of))
+    ∷ (codes "retry_max_times", bad_unless (reads number_of))
+    ∷ (codes "retry_timeout", bad_unless (reads seconds_of))
+    ∷ (codes "retry_forever", bad_unless (reads boolean_of))
+    ∷ (codes "retry_randomize", any_text)
+    ∷ (codes "overflow_action", outside_unless (reads overflow_of))
+    ∷ (codes "chunk_limit_size", bad_unless (reads size_of))
+    ∷ (codes "total_limit_size", bad_unless (reads size_of))
+    ∷ [])
 
 -- when a delivery is tried again: after 1 s, then twice as long each time, for 72 hours
 abbrev pub retry_of : List Setting → RetrySettings

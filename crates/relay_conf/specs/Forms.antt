@@ -8,7 +8,7 @@ use Rattle.tag_pattern.specs.Prefixes.{is_prefix}
 use Rattle.relay_conf.specs.declared.form.Form.{Form}
 use Rattle.relay_conf.specs.declared.form.Form.TheVariants as form
 use Rattle.relay_conf.specs.BufferSection.{flush_mode_of, is_file_of, overflow_of, threads_of}
-use Rattle.relay_conf.specs.Sections.{Check, any_text, reads, bad_unless, outside_unless, path_fault, target_fault}
+use Rattle.relay_conf.specs.Checks.{Check, any_text, reads, bad_unless, outside_unless, path_fault, target_fault}
 use Rattle.relay_conf.specs.Words.{output_type_of, store_type_of}
 
 -- what is wrong with a value of this form

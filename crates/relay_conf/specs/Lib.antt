@@ -1,5 +1,6 @@
 pub mod Printed
 pub mod Elements
+pub mod Checks
 pub mod BufferSection
 pub mod Words
 pub mod Sections

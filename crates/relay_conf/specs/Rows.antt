@@ -2,7 +2,7 @@
 use Rattle.std.specs.Prelude.{ℕ, List, map}
 use Rattle.relay_conf.specs.declared.rows.Row.{Row}
 use Rattle.relay_conf.specs.Forms.{value_fault}
-use Rattle.relay_conf.specs.Sections.{Check}
+use Rattle.relay_conf.specs.Checks.{Check}
 
 -- the rows of a table: of each parameter, its name and what is wrong with its values
 abbrev pub rows_of : List Row → List (List ℕ × Check)

@@ -1,12 +1,12 @@
 -- The sections of a configuration, and what may stand in each.
-use Rattle.std.specs.Prelude.{ℕ, ◌||◌, ◌&&◌, not, Bool, false, List, [], ◌∷◌, codes, length, nat_le, Option, Some, None, is_some, if◌then◌else◌}
+use Rattle.std.specs.Prelude.{ℕ, ◌||◌, not, Bool, false, List, [], ◌∷◌, codes, length, nat_le, Option, Some, None, if◌then◌else◌}
 use Rattle.std.specs.List.{list_any}
 use Rattle.std.specs.Option.{option_map_or}
 use Rattle.std.specs.Str.{bytes_eq}
 use Rattle.conf_text.specs.Trees.{Setting, Tree}
-use Rattle.conf_values.specs.Numbers.{number_of, port_of}
-use Rattle.conf_values.specs.Amounts.{size_of, seconds_of}
-use Rattle.conf_values.specs.Words.{boolean_of, is_path, has_slash, is_label_name, most_host_bytes}
+use Rattle.conf_values.specs.Numbers.{port_of}
+use Rattle.conf_values.specs.Amounts.{seconds_of}
+use Rattle.conf_values.specs.Words.{boolean_of, most_host_bytes}
 use Rattle.tag_pattern.specs.Prefixes.{is_prefix}
 use Rattle.relay_conf.specs.declared.fault.RelayFaultKind.{RelayFaultKind}
 use Rattle.relay_conf.specs.declared.fault.RelayFaultKind.TheVariants as kinds
@@ -16,44 +16,10 @@ use Rattle.relay_conf.specs.declared.section.Section.{Section}
 use Rattle.relay_conf.specs.declared.section.Section.TheVariants as sections
 use Rattle.relay_conf.specs.declared.section.Opening.{Opening}
 use Rattle.relay_conf.specs.declared.section.Opening.TheVariants as opening
-use Rattle.relay_conf.specs.BufferSection.{flush_mode_of, has_files, is_file_of, overflow_of, threads_of}
+use Rattle.relay_conf.specs.BufferSection.{buffer_parameters, has_files, is_file_of}
+use Rattle.relay_conf.specs.Checks.{Check, any_text, among, bad_unless, outside_unless, path_fault, reads, target_fault}
 use Rattle.relay_conf.specs.Elements.{is_named, lacks}
 use Rattle.relay_conf.specs.Words.{output_type_of, store_type_of}
-
--- what is wrong with a value, if anything
-abbrev pub Check : Type 0
-Check = List ℕ → Option RelayFaultKind
-
--- any text may stand
-abbrev pub any_text : Check
-any_text text = None
-
--- whether a text is read as something
-abbrev pub reads : {X : Type 0} → (List ℕ → Option X) → List ℕ → Bool
-reads f text = is_some (f text)
-
--- a value that doesn't pass is bad
-abbrev pub bad_unless : (List ℕ → Bool) → Check
-bad_unless good text = if good text then None else Some kinds.BadValue
-
--- a word that Fluentd may have, and this project doesn't
-abbrev pub outside_unless : (List ℕ → Bool) → Check
-outside_unless known text = if known text then None else Some kinds.OutOfProfile
-
--- a path has no `/` here, and is short and plain
-abbrev pub path_fault : Check
-path_fault text = if has_slash text then Some kinds.OutOfProfile else bad_unless is_path text
-
--- events go to a label of the configuration, never to one of Fluentd's own
-abbrev pub target_fault : Check
-target_fault text =
-    if bytes_eq text (codes "@ROOT") || bytes_eq text (codes "@ERROR") then Some kinds.OutOfProfile
-    else bad_unless is_label_name text
-
--- what the row of this name has, if there is one
-abbrev pub among : {X : Type 0} → List (List ℕ × X) → List ℕ → Option X
-among [] name = None
-among (row ∷ rows) name = if bytes_eq name row.0 then Some row.1 else among rows name
 
 -- What may stand in a section: its type, if it has one, its other parameters, and the sections in
 -- it, each by its name; and whether it lacks what it must have.
@@ -159,24 +125,7 @@ profile_of sections.Security = record nothing {
 }
 profile_of sections.Buffer = record nothing {
   type = Some (outside_unless (reads is_file_of));
-  parameters = among
-      ((codes "path", path_fault)
-      ∷ (codes "flush_mode", outside_unless (reads flush_mode_of))
-      ∷ (codes "flush_interval", bad_unless (reads seconds_of))
-      ∷ (codes "flush_thread_count", bad_unless (reads threads_of))
-      ∷ (codes "flush_at_shutdown", any_text)
-      ∷ (codes "retry_type", outside_unless (λ text. bytes_eq text (codes "exponential_backoff")))
-      ∷ (codes "retry_wait", bad_unless (reads seconds_of))
-      ∷ (codes "retry_exponential_backoff_base", bad_unless (reads number_of))
-      ∷ (codes "retry_max_interval", bad_unless (reads seconds_of))
-      ∷ (codes "retry_max_times", bad_unless (reads number_of))
-      ∷ (codes "retry_timeout", bad_unless (reads seconds_of))
-      ∷ (codes "retry_forever", bad_unless (reads boolean_of))
-      ∷ (codes "retry_randomize", any_text)
-      ∷ (codes "overflow_action", outside_unless (reads overflow_of))
-      ∷ (codes "chunk_limit_size", bad_unless (reads size_of))
-      ∷ (codes "total_limit_size", bad_unless (reads size_of))
-      ∷ []);
+  parameters = buffer_parameters;
   lacks = λ settings children. has_files settings && lacks (codes "path") settings;
 }
 profile_of (sections.Match kind) = record (option_map_or output_profile kind passed) {

@@ -3,7 +3,7 @@
 ghost use Rattle.std.specs.Prelude.{◌≡◌, length, nat_le, None, Some, if◌then◌else◌};
 ghost use Rattle.relay_conf.specs.Words.{output_type_of, store_type_of};
 ghost use Rattle.relay_conf.specs.Forms.{value_fault, IsWordForm};
-ghost use Rattle.relay_conf.specs.Sections.{path_fault, target_fault};
+ghost use Rattle.relay_conf.specs.Checks.{path_fault, target_fault};
 ghost use Rattle.conf_values.specs.Words.{most_host_bytes};
 
 use crate::buffer::{flush_mode, is_file, overflow, threads};

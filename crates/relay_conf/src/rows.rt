@@ -4,7 +4,7 @@ ghost use Rattle.std.specs.Prelude.{◌≡◌};
 ghost use Rattle.std.specs.Option.{option_map};
 ghost use Rattle.relay_conf.specs.Forms.{value_fault};
 ghost use Rattle.relay_conf.specs.Rows.{rows_of};
-ghost use Rattle.relay_conf.specs.Sections.{among};
+ghost use Rattle.relay_conf.specs.Checks.{among};
 
 use crate::form::Form;
 

@@ -1,6 +1,6 @@
 use Rattle.std.proofs.Common.{◌≡◌, drop}
 use Rattle.relay_conf.specs.Rows.{rows_of}
-use Rattle.relay_conf.specs.Sections.{among}
+use Rattle.relay_conf.specs.Checks.{among}
 use Rattle.relay_conf.proofs.rows.form_in.Given as goal
 
 abbrev pub invariant-loop-row : goal.invariant-loop-row
