@@ -1,6 +1,6 @@
 -- The parts of an element, and the values of its parameters.
-use Rattle.std.specs.Prelude.{ℕ, Bool, List, [], ◌∷◌, Option, Some, None, is_none, if◌then◌else◌, option_and_then, unwrap_or}
-use Rattle.std.specs.Option.{option_or}
+use Rattle.std.specs.Prelude.{ℕ, Bool, List, [], ◌∷◌, reverse, Option, is_none, option_map, option_and_then, unwrap_or}
+use Rattle.std.specs.List.{find}
 use Rattle.std.specs.Str.{bytes_eq}
 use Rattle.conf_text.specs.Trees.{Heading, Setting, Tree, tree, Trees, no_trees, more_trees}
 
@@ -27,9 +27,8 @@ is_named name t = bytes_eq (heading_of t).name name
 
 -- the value of the last line of this name, if there is one
 abbrev pub value_of : List ℕ → List Setting → Option (List ℕ)
-value_of name [] = None
-value_of name (s ∷ rest) = option_or (value_of name rest)
-    (if bytes_eq s.name name then Some s.value else None)
+value_of name settings =
+    option_map (λ s. s.value) (find (λ s. bytes_eq s.name name) (reverse settings))
 
 -- whether no parameter has this name
 abbrev pub lacks : List ℕ → List Setting → Bool
@@ -41,6 +40,4 @@ read_or f default value = unwrap_or (option_and_then f value) default
 
 -- the last of the elements of this name, if there is one
 abbrev pub last_child : List ℕ → List Tree → Option Tree
-last_child name [] = None
-last_child name (t ∷ rest) = option_or (last_child name rest)
-    (if is_named name t then Some t else None)
+last_child name children = find (is_named name) (reverse children)

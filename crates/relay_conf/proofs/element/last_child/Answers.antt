@@ -5,6 +5,7 @@ use Rattle.conf_text.specs.Trees.{Tree}
 use Rattle.conf_text.specs.Views.{tree_of}
 use Rattle.relay_conf.specs.Elements.{is_named, last_child}
 use Rattle.relay_conf.proofs.Drops.{drop_is}
+use Rattle.relay_conf.proofs.LastValues.{last_found}
 use Rattle.relay_conf.proofs.element.last_child.Goals as goal
 use Rattle.relay_conf.proofs.element.last_child.Goals.{then-is_named, else-is_named}
 
@@ -21,12 +22,16 @@ before_or_behind (Some u) before = refl
 -- an element of the name is found in the place of any before it
 found_here : (name : List ℕ) (t : Tree) (ts : List Tree) (before all : Option Tree) → is_named name t ≡ true
     → option_or (last_child name (t ∷ ts)) before ≡ all → option_or (last_child name ts) (Some t) ≡ all
-found_here name t ts before all full so_far = sym (this_or_behind (last_child name ts) t before) ∙ (rw full at so_far)
+found_here name t ts before all full so_far =
+    let next = rw (last_found (is_named name) t ts, full) at so_far in
+    sym (this_or_behind (last_child name ts) t before) ∙ next
 
 -- another one is passed
 found_behind : (name : List ℕ) (t : Tree) (ts : List Tree) (before all : Option Tree) → is_named name t ≡ false
     → option_or (last_child name (t ∷ ts)) before ≡ all → option_or (last_child name ts) before ≡ all
-found_behind name t ts before all empty so_far = sym (before_or_behind (last_child name ts) before) ∙ (rw empty at so_far)
+found_behind name t ts before all empty so_far =
+    let next = rw (last_found (is_named name) t ts, empty) at so_far in
+    sym (before_or_behind (last_child name ts) before) ∙ next
 
 pub loop-child-preserved : goal.loop-child-preserved
 loop-child-preserved g c =
