@@ -10,16 +10,16 @@ use Rattle.conf_text.specs.Grammar.{top}
 use Rattle.conf_text.specs.Trees.{Heading, Setting, Tree, tree, trees, Trees, no_trees, more_trees}
 use Rattle.relay_conf.specs.Copies.{is_copy, outputs_in}
 use Rattle.relay_conf.specs.Described.{IsOutputOf}
-use Rattle.relay_conf.specs.Elements.{heading_of, settings_of, children_of, tree_list, is_named}
+use Rattle.relay_conf.specs.Elements.{heading_of, settings_of, children_of, tree_list, is_named, trees_elements}
 use Rattle.relay_conf.specs.declared.output.Output.{Output}
 use Rattle.relay_conf.specs.declared.output.Output.TheVariants as output
 use Rattle.relay_conf.specs.declared.relay.MatchRule.{MatchRule}
 use Rattle.relay_conf.specs.declared.relay.Relay.{Relay}
 use Rattle.relay_conf.specs.declared.relay.Scope.{Scope}
 use Rattle.relay_conf.specs.Buffers.{buffer_number, output_in_relay, HaveOwnBuffers}
-use Rattle.relay_conf.specs.Meaning.{kind_of, is_buffered, has_buffer, numbered, tree_buffers, trees_buffers}
+use Rattle.relay_conf.specs.Meaning.{kind_of, is_buffered, has_buffer, numbered, tree_buffers}
 use Rattle.relay_conf.specs.Relays.{IsMatchOf, IsScopeOf, IsRelayOf}
-use Rattle.relay_conf.proofs.Counting.{one_if}
+use Rattle.relay_conf.proofs.Counting.{one_if, trees_buffers, first_counted, buffers_with}
 use Rattle.relay_conf.proofs.Copies.{outputs_are}
 use Rattle.relay_conf.proofs.Trees.{tree_list_trees}
 
@@ -88,19 +88,20 @@ buffers_among (t ∷ ts) = tree_buffers t + buffers_among ts
 
 among_children : (ts : Trees) → buffers_among (tree_list ts) ≡ trees_buffers ts
 among_children no_trees = refl
-among_children (more_trees t ts) = ap (λ n. tree_buffers t + n) (among_children ts)
+among_children (more_trees t ts) = ap (λ n. tree_buffers t + n) (among_children ts) ∙ sym (buffers_with t ts)
 
 named_so : (name : List ℕ) (h : Heading) → bytes_eq h.name name ≡ true → h.name ≡ name
 named_so name h e = (bytes_eq-Decides h.name name).0 e
 
 -- an element of this name, which isn't `system`, counts what is in it
 counted : (name : List ℕ) (h : Heading) (s : List Setting) (kids : Trees) → bytes_eq h.name name ≡ true → bytes_eq name (codes "system") ≡ false
-    → tree_buffers (tree h s kids) ≡ one_if (has_buffer h s) + buffers_among (tree_list kids)
-counted name h s kids e other = let no : bytes_eq h.name (codes "system") ≡ false = rw (named_so name h e) other in rw no (ap (λ n. one_if (has_buffer h s) + n) (sym (among_children kids)))
+    → tree_buffers (tree h s kids) ≡ one_if (has_buffer (tree h s kids)) + buffers_among (tree_list kids)
+counted name h s kids e other = let no : bytes_eq h.name (codes "system") ≡ false = rw (named_so name h e) other in
+    rw no (first_counted (tree h s kids) (trees_elements kids) ∙ ap (λ n. one_if (has_buffer (tree h s kids)) + n) (sym (among_children kids)))
 
 -- an output that is a match or a store
-has_its : (h : Heading) (s : List Setting) → (bytes_eq h.name (codes "match") || bytes_eq h.name (codes "store")) ≡ true → has_buffer h s ≡ is_buffered (kind_of s)
-has_its h s e = rw e refl
+has_its : (h : Heading) (s : List Setting) (kids : Trees) → (bytes_eq h.name (codes "match") || bytes_eq h.name (codes "store")) ≡ true → has_buffer (tree h s kids) ≡ is_buffered (kind_of s)
+has_its h s kids e = rw e refl
 
 match_or : (h : Heading) → bytes_eq h.name (codes "match") ≡ true → (bytes_eq h.name (codes "match") || bytes_eq h.name (codes "store")) ≡ true
 match_or h e = rw e refl
@@ -113,7 +114,7 @@ in_its_tree : (b n : ℕ) (name : List ℕ) (t : Tree) → is_named name t ≡ t
     → (bytes_eq name (codes "match") || bytes_eq name (codes "store")) ≡ true → AtMostOne (said b ((n, t) ∷ [])) n (n + tree_buffers t) b
 in_its_tree b n name (tree h s kids) e other is =
     let full = counted name h s kids e other in
-    let mine : has_buffer h s ≡ is_buffered (kind_of s) = has_its h s (rw (named_so name h e) is) in
+    let mine : has_buffer (tree h s kids) ≡ is_buffered (kind_of s) = has_its h s kids (rw (named_so name h e) is) in
     let at_least : one_if (is_buffered (kind_of s)) ≤ tree_buffers (tree h s kids) = rw (full, mine) (omega arith) in
     wider _ n _ n _ b (one_output b n (tree h s kids)) (omega arith) (omega (arith, at_least))
 

@@ -1,5 +1,5 @@
 -- The parts of an element, and the values of its parameters.
-use Rattle.std.specs.Prelude.{ℕ, Bool, List, [], ◌∷◌, reverse, Option, is_none, option_map, option_and_then, unwrap_or}
+use Rattle.std.specs.Prelude.{ℕ, Bool, List, [], ◌∷◌, ◌++◌, codes, reverse, Option, is_none, if◌then◌else◌, option_map, option_and_then, unwrap_or}
 use Rattle.std.specs.List.{find}
 use Rattle.std.specs.Str.{bytes_eq}
 use Rattle.conf_text.specs.Trees.{Heading, Setting, Tree, tree, Trees, no_trees, more_trees}
@@ -41,3 +41,15 @@ read_or f default value = unwrap_or (option_and_then f value) default
 -- the last of the elements of this name, if there is one
 abbrev pub last_child : List ℕ → List Tree → Option Tree
 last_child name children = find (is_named name) (reverse children)
+
+-- an element and all that is in it, and elements one after the other with all that is in them, in
+-- the order of the text, but for what is passed over
+abbrev mutual
+  pub tree_elements : Tree → List Tree
+  tree_elements (tree h settings children) =
+      if bytes_eq h.name (codes "system") then []
+      else tree h settings children ∷ trees_elements children
+
+  pub trees_elements : Trees → List Tree
+  trees_elements no_trees = []
+  trees_elements (more_trees t ts) = tree_elements t ++ trees_elements ts

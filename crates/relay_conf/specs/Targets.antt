@@ -1,20 +1,13 @@
 -- The scopes that events go to, by their labels.
-use Rattle.std.specs.Prelude.{ℕ, ◌+◌, List, map, filter, Option, Some, None}
+use Rattle.std.specs.Prelude.{ℕ, ◌+◌, List, Option}
 use Rattle.std.specs.List.{position_or_len}
+use Rattle.std.specs.Option.{option_map_or}
 use Rattle.std.specs.Str.{bytes_eq}
 use Rattle.conf_text.specs.Trees.{Tree}
-use Rattle.relay_conf.specs.Elements.{heading_of}
-use Rattle.relay_conf.specs.Labels.{is_label}
+use Rattle.relay_conf.specs.Labels.{labels_of}
 
--- the labels that sections have, in the order of the text
-abbrev pub labels_of : List Tree → List (List ℕ)
-labels_of elements = map (λ t. (heading_of t).argument) (filter is_label elements)
-
--- the place of a label's scope: behind the main scope, in the order of the text
-abbrev pub scope_of : List ℕ → List Tree → ℕ
-scope_of name elements = 1 + position_or_len (λ label. bytes_eq label name) (labels_of elements)
-
--- the scope that events go to: a label's, or the main one where none is named
+-- the place of the scope that events go to: a label's, behind the main one in the order of the
+-- text, or the main one where none is named
 abbrev pub target_of : List Tree → Option (List ℕ) → ℕ
-target_of elements None = 0
-target_of elements (Some name) = scope_of name elements
+target_of elements label = option_map_or
+    (λ name. 1 + position_or_len (λ other. bytes_eq other name) (labels_of elements)) label 0

@@ -1,10 +1,12 @@
 //! The labels of a configuration, and where they are named.
 
 ghost use Rattle.std.specs.Prelude.{◌≡◌, ◌&&◌, not, map, take, codes};
+ghost use Rattle.std.specs.List.{flat_map};
+ghost use Rattle.std.specs.Str.{bytes_eq};
 ghost use Rattle.conf_text.specs.Views.{setting, tree_of};
-ghost use Rattle.relay_conf.specs.Elements.{heading_of};
+ghost use Rattle.relay_conf.specs.Elements.{heading_of, is_named};
 ghost use Rattle.relay_conf.specs.Findings.{Examines};
-ghost use Rattle.relay_conf.specs.Labels.{is_label, is_label_of, has_label, target_found, targets_found, tree_targets, double_found, labels_from};
+ghost use Rattle.relay_conf.specs.Labels.{has_label, target_found, tree_targets, double_found, labels_from};
 
 use crate::element::{argument_of, is_named, line_of, name_of, pairs_of};
 use crate::examine::fault_if;
@@ -54,7 +56,8 @@ fn examine_targets<A: Allocator>(
 
 // Goes through the labels that are named in parameters.
 fn examine_pairs<A: Allocator>(elements: &[Element<A>], pairs: &[Pair<A>]) -> Result<(), RelayError>
-    ensures { Examines (targets_found (map tree_of elements.now) (map setting pairs.now)) result }
+    ensures { Examines
+        (flat_map (target_found (map tree_of elements.now)) (map setting pairs.now)) result }
 {
     for pair in pairs {
         examine_pair(elements, pair)?;
@@ -85,7 +88,9 @@ fn has_label<A: Allocator>(elements: &[Element<A>], name: &str) -> bool
 }
 
 fn is_label_of<A: Allocator>(element: &Element<A>, name: &str) -> bool
-    ensures { result ≡ is_label_of name.now (tree_of element.now) }
+    ensures { result
+        ≡ (is_named (codes "label") (tree_of element.now)
+        && bytes_eq (heading_of (tree_of element.now)).argument name.now) }
 {
     is_named(element, "label") && argument_of(element) == name
 }

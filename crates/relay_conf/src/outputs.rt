@@ -111,9 +111,7 @@ fn buffers_in<A: Allocator>(element: &Element<A>) -> Result<usize, AllocError>
 }
 
 fn own_buffers<A: Allocator>(element: &Element<A>) -> usize
-    ensures { result
-        ≡ (if has_buffer (heading_of (tree_of element.now)) (settings_of (tree_of element.now))
-        then 1 else 0) }
+    ensures { result ≡ (if has_buffer (tree_of element.now) then 1 else 0) }
 {
     let is_output = is_named(element, "match") || is_named(element, "store");
     if is_output && is_buffered(kind_of(pairs_of(element))) {

@@ -1,11 +1,12 @@
 //! The scopes that events go to, by their labels.
 
-ghost use Rattle.std.specs.Prelude.{◌≡◌, map};
+ghost use Rattle.std.specs.Prelude.{◌≡◌, ◌+◌, map};
+ghost use Rattle.std.specs.List.{position_or_len};
 ghost use Rattle.std.specs.Option.{option_copied};
+ghost use Rattle.std.specs.Str.{bytes_eq};
 ghost use Rattle.conf_text.specs.Views.{tree_of};
-ghost use Rattle.relay_conf.specs.Elements.{heading_of};
-ghost use Rattle.relay_conf.specs.Labels.{is_label};
-ghost use Rattle.relay_conf.specs.Targets.{scope_of, target_of};
+ghost use Rattle.relay_conf.specs.Labels.{labels_of};
+ghost use Rattle.relay_conf.specs.Targets.{target_of};
 
 use crate::element::{argument_of, is_named};
 use crate::relay::ScopeNo;
@@ -24,7 +25,9 @@ pub(crate) fn target<A: Allocator>(elements: &[Element<A>], name: Option<&str>) 
 
 // The place of a label's scope, behind the main one.
 fn scope_of<A: Allocator>(elements: &[Element<A>], name: &str) -> usize
-    ensures { result ≡ scope_of name.now (map tree_of elements.now) }
+    ensures { result
+        ≡ 1 + position_or_len (λ label. bytes_eq label name.now)
+        (labels_of (map tree_of elements.now)) }
 {
     let mut number = 1;
     for element in elements {

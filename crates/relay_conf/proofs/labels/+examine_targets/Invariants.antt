@@ -2,8 +2,8 @@ use Rattle.std.proofs.Common.{drop, map}
 use Rattle.conf_text.specs.declared.element.Element.{size-Element}
 use Rattle.conf_text.specs.Trees.{trees}
 use Rattle.conf_text.specs.Views.{tree_of}
-use Rattle.relay_conf.specs.Labels.{trees_targets}
 use Rattle.relay_conf.proofs.Findings.{Continues}
+use Rattle.relay_conf.proofs.Labelling.{trees_targets}
 use Rattle.relay_conf.proofs.labels.+examine_targets.Given as goal
 
 abbrev pub invariant-loop-child : goal.invariant-loop-child

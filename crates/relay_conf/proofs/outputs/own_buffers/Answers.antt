@@ -1,7 +1,7 @@
 use Rattle.std.proofs.Common.{◌≡◌, true, sym, ap, ◌∙◌}
 use Rattle.std.specs.Prelude.{◌||◌, codes}
 use Rattle.conf_text.specs.Views.{tree_of}
-use Rattle.relay_conf.specs.Elements.{heading_of, settings_of, is_named}
+use Rattle.relay_conf.specs.Elements.{is_named}
 use Rattle.relay_conf.specs.Meaning.{kind_of}
 use Rattle.relay_conf.proofs.Counting.{first_holds, second_holds, counts_itself}
 use Rattle.relay_conf.proofs.outputs.own_buffers.Goals as goal
@@ -14,4 +14,4 @@ returns-then-is_buffered g c =
       | then-is_named w ↦ first_holds _ _ (sym c.is_named.ensures ∙ w.if-is_named.true)
       | else-is_named w ↦ second_holds _ _ (sym w.is_named-is_output.ensures ∙ sym w.is_output-is ∙ c.if-is_output.true)
     ] in
-    counts_itself (heading_of t) (settings_of t) c.kind_of.result named c.if-is_buffered.ensures (c.kind_of.ensures ∙ ap kind_of c.pairs_of.ensures)
+    counts_itself t c.kind_of.result named c.if-is_buffered.ensures (c.kind_of.ensures ∙ ap kind_of c.pairs_of.ensures)

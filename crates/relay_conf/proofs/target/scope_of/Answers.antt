@@ -1,31 +1,31 @@
 use Rattle.std.proofs.Common.{◌≡◌, ◌∙◌, ◌+◌, sym, map, drop, List, ℕ, ◌∷◌, true, false, ap, arith}
+use Rattle.std.specs.Prelude.{codes}
 use Rattle.std.specs.List.{position_or_len}
 use Rattle.std.specs.Str.{bytes_eq}
 use Rattle.std.proofs.lemmas.List.{drop_all}
 use Rattle.conf_text.specs.Trees.{Tree}
 use Rattle.conf_text.specs.declared.element.Element.{Element}
 use Rattle.conf_text.specs.Views.{tree_of}
-use Rattle.relay_conf.specs.Elements.{heading_of}
-use Rattle.relay_conf.specs.Labels.{is_label}
-use Rattle.relay_conf.specs.Targets.{labels_of}
+use Rattle.relay_conf.specs.Elements.{heading_of, is_named}
+use Rattle.relay_conf.specs.Labels.{labels_of}
 use Rattle.relay_conf.proofs.Drops.{drop_is}
 use Rattle.relay_conf.proofs.target.scope_of.Goals as goal
 use Rattle.relay_conf.proofs.target.scope_of.Goals.{then-is_named+else-eq, else-is_named}
 
 -- a label of another name counts
-counted : (name : List ℕ) (n s : ℕ) (t : Tree) (ts all : List Tree) → all ≡ t ∷ ts → is_label t ≡ true → bytes_eq (heading_of t).argument name ≡ false
+counted : (name : List ℕ) (n s : ℕ) (t : Tree) (ts all : List Tree) → all ≡ t ∷ ts → is_named (codes "label") t ≡ true → bytes_eq (heading_of t).argument name ≡ false
     → n + position_or_len (λ label. bytes_eq label name) (labels_of all) ≡ s → (n + 1) + position_or_len (λ label. bytes_eq label name) (labels_of ts) ≡ s
 counted name n s t ts all here label other so_far =
     let e = rw (here, label, other) at so_far in
     omega (arith, e)
 
 -- what is no label is passed
-passed : (name : List ℕ) (n s : ℕ) (t : Tree) (ts all : List Tree) → all ≡ t ∷ ts → is_label t ≡ false
+passed : (name : List ℕ) (n s : ℕ) (t : Tree) (ts all : List Tree) → all ≡ t ∷ ts → is_named (codes "label") t ≡ false
     → n + position_or_len (λ label. bytes_eq label name) (labels_of all) ≡ s → n + position_or_len (λ label. bytes_eq label name) (labels_of ts) ≡ s
 passed name n s t ts all here other so_far = rw (here, other) at so_far
 
 -- the label of this name is found
-found : (name : List ℕ) (n s : ℕ) (t : Tree) (ts all : List Tree) → all ≡ t ∷ ts → is_label t ≡ true → bytes_eq (heading_of t).argument name ≡ true
+found : (name : List ℕ) (n s : ℕ) (t : Tree) (ts all : List Tree) → all ≡ t ∷ ts → is_named (codes "label") t ≡ true → bytes_eq (heading_of t).argument name ≡ true
     → n + position_or_len (λ label. bytes_eq label name) (labels_of all) ≡ s → n ≡ s
 found name n s t ts all here label same so_far =
     let e = rw (here, label, same) at so_far in
