@@ -8,11 +8,16 @@ use Rattle.conf_text.proofs.Elements.{tree_of_out}
 use Rattle.relay_conf.specs.declared.section.Section.{Section}
 use Rattle.relay_conf.specs.declared.section.Opening.{Opening}
 use Rattle.relay_conf.specs.declared.fault.RelayError.{RelayError}
+use Rattle.relay_conf.specs.declared.fault.RelayFaultKind.TheVariants as kinds
 use Rattle.relay_conf.specs.Elements.{heading_of, settings_of, children_of, value_of}
 use Rattle.relay_conf.specs.Sections.{profile_of}
-use Rattle.relay_conf.specs.Findings.{AllPass, Refuses, Examines}
-use Rattle.relay_conf.specs.Examined.{front_found, section_of, section_in, trees_found, missing_found, tree_found}
+use Rattle.relay_conf.specs.Findings.{Finding, AllPass, Refuses, Examines}
+use Rattle.relay_conf.specs.Examined.{front_found, section_of, section_in, trees_found, found_if, tree_found}
 use Rattle.relay_conf.proofs.Findings.{refuses_front, refuses_behind, examines_behind}
+
+-- what is missing in a section
+abbrev pub missing_found : Section → Heading → List Setting → List Tree → List Finding
+missing_found section h settings children = found_if ((profile_of section).lacks settings children) kinds.Missing h.line
 
 -- what is found at an element, by its parts
 parts_found : (parent : Section) (t : Tree) (h : Heading) (s : List Setting) (kids : List Tree) → t ≡ tree h s (trees kids)

@@ -1,5 +1,5 @@
 -- Settings that are gone through, from the front.
-use Rattle.std.proofs.Common.{◌≡◌, ℕ, ◌+◌, ◌<◌, ◌≤◌, List, [], ◌++◌, length, get_or, drop, map, sym, ap, ◌∙◌, Option, Some, None}
+use Rattle.std.proofs.Common.{◌≡◌, ℕ, ◌+◌, ◌<◌, ◌≤◌, List, [], length, get_or, drop, map, sym, ap, ◌∙◌, Option, None}
 use Rattle.std.specs.Prelude.{string_bytes}
 use Rattle.std.specs.List.{cons_option}
 use Rattle.std.specs.Option.{option_map}

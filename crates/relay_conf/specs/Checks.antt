@@ -1,5 +1,7 @@
 -- What is wrong with the value of a parameter.
 use Rattle.std.specs.Prelude.{ℕ, ◌||◌, Bool, List, [], ◌∷◌, codes, Option, Some, None, is_some, if◌then◌else◌}
+use Rattle.std.specs.List.{find}
+use Rattle.std.specs.Option.{option_map}
 use Rattle.std.specs.Str.{bytes_eq}
 use Rattle.conf_values.specs.Words.{is_path, has_slash, is_label_name}
 use Rattle.relay_conf.specs.declared.fault.RelayFaultKind.{RelayFaultKind}
@@ -37,5 +39,4 @@ target_fault text =
 
 -- what the row of this name has, if there is one
 abbrev pub among : {X : Type 0} → List (List ℕ × X) → List ℕ → Option X
-among [] name = None
-among (row ∷ rows) name = if bytes_eq name row.0 then Some row.1 else among rows name
+among rows name = option_map (λ row. row.1) (find (λ row. bytes_eq name row.0) rows)

@@ -90,18 +90,15 @@ abbrev pub section_in : Section → Heading → List Setting → Section
 section_in parent h settings = section_of ((profile_of parent).sections h.name)
     (value_of (codes "@type") settings)
 
--- what is missing in a section
-abbrev pub missing_found : Section → Heading → List Setting → List Tree → List Finding
-missing_found section h settings children =
-    found_if ((profile_of section).lacks settings children) kinds.Missing h.line
-
--- what is wrong with an element in a section, and with elements one after the other
+-- what is wrong with an element in a section, where what it lacks comes last, and with elements one
+-- after the other
 abbrev mutual
   pub tree_found : Section → Tree → List Finding
   tree_found parent (tree h settings children) =
       front_found ((profile_of parent).sections h.name) h settings
       ++ (trees_found (section_in parent h settings) children
-      ++ missing_found (section_in parent h settings) h settings (tree_list children))
+      ++ found_if ((profile_of (section_in parent h settings)).lacks settings (tree_list children))
+      kinds.Missing h.line)
 
   pub trees_found : Section → Trees → List Finding
   trees_found section no_trees = []

@@ -1,5 +1,5 @@
 -- The sections of a configuration, and what may stand in each.
-use Rattle.std.specs.Prelude.{ℕ, ◌||◌, not, Bool, false, List, [], ◌∷◌, codes, length, nat_le, Option, Some, None, if◌then◌else◌}
+use Rattle.std.specs.Prelude.{ℕ, ◌||◌, ◌&&◌, not, Bool, false, List, [], ◌∷◌, codes, length, nat_le, Option, Some, None, if◌then◌else◌}
 use Rattle.std.specs.List.{list_any}
 use Rattle.std.specs.Option.{option_map_or}
 use Rattle.std.specs.Str.{bytes_eq}
@@ -35,7 +35,7 @@ nothing = record {
   type = None;
   parameters = λ name. None;
   sections = λ name. None;
-  lacks = λ settings children. false;
+  lacks = λ s children. false;
 }
 
 -- anything may stand in what is passed over
@@ -60,20 +60,20 @@ output_profile outputs.Forward = record nothing {
       ∷ (codes "buffer", opening.Plain sections.Buffer)
       ∷ (codes "security", opening.Plain sections.Security)
       ∷ []);
-  lacks = λ settings children. not (list_any (is_named (codes "server")) children);
+  lacks = λ s children. not (list_any (is_named (codes "server")) children);
 }
 output_profile outputs.File = record nothing {
   parameters = among ((codes "path", path_fault) ∷ []);
   sections = among ((codes "buffer", opening.Plain sections.Buffer) ∷ []);
-  lacks = λ settings children. lacks (codes "path") settings;
+  lacks = λ s children. lacks (codes "path") s;
 }
 output_profile outputs.Copy = record nothing {
   sections = among ((codes "store", opening.Store) ∷ []);
-  lacks = λ settings children. not (list_any (is_named (codes "store")) children);
+  lacks = λ s children. not (list_any (is_named (codes "store")) children);
 }
 output_profile outputs.Relabel = record nothing {
   parameters = among ((codes "@label", target_fault) ∷ []);
-  lacks = λ settings children. lacks (codes "@label") settings;
+  lacks = λ s children. lacks (codes "@label") s;
 }
 output_profile outputs.Null = nothing
 
@@ -113,20 +113,19 @@ profile_of sections.Server = record nothing {
       ∷ (codes "weight", any_text)
       ∷ (codes "standby", any_text)
       ∷ []);
-  lacks = λ settings children. lacks (codes "host") settings;
+  lacks = λ s children. lacks (codes "host") s;
 }
 profile_of sections.Security = record nothing {
   parameters = among
       ((codes "self_hostname", bad_unless (λ text. nat_le (length text) most_host_bytes))
       ∷ (codes "shared_key", any_text)
       ∷ []);
-  lacks = λ settings children. lacks (codes "self_hostname") settings
-      || lacks (codes "shared_key") settings;
+  lacks = λ s children. lacks (codes "self_hostname") s || lacks (codes "shared_key") s;
 }
 profile_of sections.Buffer = record nothing {
   type = Some (outside_unless (reads is_file_of));
   parameters = buffer_parameters;
-  lacks = λ settings children. has_files settings && lacks (codes "path") settings;
+  lacks = λ s children. has_files s && lacks (codes "path") s;
 }
 profile_of (sections.Match kind) = record (option_map_or output_profile kind passed) {
   type = Some (outside_unless (reads output_type_of));

@@ -5,7 +5,6 @@ ghost use Rattle.std.specs.Prelude.{◌≡◌, map, option_and_then, string_byte
 ghost use Rattle.conf_text.specs.Views.{setting, tree_of};
 ghost use Rattle.relay_conf.specs.Elements.{read_or, value_of};
 ghost use Rattle.relay_conf.specs.BufferSection.{IsBufferIn, IsBufferOf, flush_mode_of, has_files, is_file_of, keeping_settings, kind_view, overflow_of, retry_of, threads_of};
-ghost use Rattle.relay_conf.specs.Rows.{rows_of};
 
 use crate::element::{last_child, pairs_of, value_of};
 use crate::form::Form;

@@ -4,7 +4,7 @@
 ghost use Rattle.std.specs.Prelude.{◌≡◌, ◌&&◌, ◌||◌, map, filter, IfOk, codes, string_bytes, ◌+◌, if◌then◌else◌};
 ghost use Rattle.std.specs.List.{AllZip};
 ghost use Rattle.conf_text.specs.Views.{setting, tree_of};
-ghost use Rattle.relay_conf.specs.Elements.{heading_of, settings_of, children_of, is_named};
+ghost use Rattle.relay_conf.specs.Elements.{children_of, is_named};
 ghost use Rattle.relay_conf.specs.Meaning.{kind_of, is_buffered, has_buffer, tree_buffers, numbered};
 ghost use Rattle.relay_conf.specs.Copies.{is_copy, outputs_in};
 ghost use Rattle.relay_conf.specs.Described.{IsForwardOf, IsFileOf, IsOutputOf};
