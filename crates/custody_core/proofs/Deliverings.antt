@@ -15,7 +15,8 @@ use Rattle.relay_conf.specs.declared.output.Server.{Server}
 use Rattle.relay_net.specs.Network.{Network, place_of, output_at, address_of_server, is_in_memory}
 use Rattle.relay_net.specs.Outputs.{Keeps, servers_of}
 use Rattle.custody_steps.specs.World.{World, with_buffer}
-use Rattle.custody_steps.specs.Steps.{Allowed, effect, Forwards, Stores, DropsOldest, HasQueued, with_stored, forwarded_to, output_named}
+use Rattle.custody_steps.specs.Rules.{Allowed, effect}
+use Rattle.custody_steps.specs.Steps.{Forwards, Stores, DropsOldest, HasQueued, with_stored, forwarded_to, output_named}
 use Rattle.step_lines.specs.declared.step.ChunkName.{ChunkName}
 use Rattle.step_lines.specs.declared.step.Step.TheVariants as step
 use Rattle.custody_store.proofs.Lists.{some_and}

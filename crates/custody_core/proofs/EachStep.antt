@@ -19,7 +19,8 @@ use Rattle.route_graph.specs.Ways.{HaveTag, IsLeaf}
 use Rattle.step_lines.specs.declared.step.ChunkName.{ChunkName}
 use Rattle.step_lines.specs.declared.step.Step.TheVariants as step
 use Rattle.custody_steps.specs.World.{World, with_buffer}
-use Rattle.custody_steps.specs.Steps.{Allowed, effect, CanBegin, IsAnswered, Forwards, Stores, GivesUp, DropsOldest, HasQueued, with_named, with_stored, output_named, forwarded_to, tag_of}
+use Rattle.custody_steps.specs.Rules.{Allowed, effect}
+use Rattle.custody_steps.specs.Steps.{CanBegin, IsAnswered, Forwards, Stores, GivesUp, DropsOldest, HasQueued, with_named, with_stored, output_named, forwarded_to, tag_of}
 use Rattle.custody_store.proofs.Lists.{some_and}
 use Rattle.loss_rules.proofs.Members.{contains-map}
 use Rattle.custody_core.proofs.Serials.{event_of}

@@ -17,7 +17,8 @@ use Rattle.step_lines.specs.declared.step.Step.TheVariants as step
 use Rattle.custody_store.specs.Branches.{EachKeeps}
 use Rattle.custody_store.proofs.Lists.{some_and}
 use Rattle.custody_steps.specs.World.{World, initial_world, with_buffer}
-use Rattle.custody_steps.specs.Steps.{Allowed, effect, Steps, CanAppend, CanAcknowledge}
+use Rattle.custody_steps.specs.Rules.{Allowed, effect}
+use Rattle.custody_steps.specs.Steps.{Steps, CanAppend, CanAcknowledge}
 use Rattle.custody_steps.proofs.Keeping.{is_of}
 use Rattle.loss_rules.proofs.Members.{map-contains}
 use Rattle.custody_core.specs.Custody.{EachBranchKeeps}

@@ -6,7 +6,8 @@ use Rattle.std.proofs.lemmas.List.Elements.{All-contains_itself}
 use Rattle.relay_net.specs.Network.{Network, address_of_client, place_of}
 use Rattle.custody_steps.specs.Held.{HeldAs}
 use Rattle.custody_steps.specs.World.{World, initial_world}
-use Rattle.custody_steps.specs.Steps.{Allowed, effect, Steps}
+use Rattle.custody_steps.specs.Rules.{Allowed, effect}
+use Rattle.custody_steps.specs.Steps.{Steps}
 use Rattle.step_lines.specs.declared.step.ChunkName.{ChunkName}
 use Rattle.step_lines.specs.declared.step.Step.{Step}
 use Rattle.step_lines.specs.declared.step.Step.TheVariants as step

@@ -16,7 +16,8 @@ use Rattle.custody_store.specs.Buffers.{Event, Chunk, BufferState, with_chunk, e
 use Rattle.custody_store.proofs.Members.{get-contains}
 use Rattle.custody_store.specs.Book.{Message, Delivery, Told, ended}
 use Rattle.custody_steps.specs.World.{World, initial_world, with_buffer}
-use Rattle.custody_steps.specs.Steps.{Allowed, effect, Steps, CanBegin, CanAppend, tag_of, with_named, with_stored, with_delivery, forwarded_to, chunk_named}
+use Rattle.custody_steps.specs.Rules.{Allowed, effect}
+use Rattle.custody_steps.specs.Steps.{Steps, CanBegin, CanAppend, tag_of, with_named, with_stored, with_delivery, forwarded_to, chunk_named}
 use Rattle.custody_core.specs.Custody.{IsClient, NothingIsMadeUp}
 use Rattle.custody_store.specs.declared.sender.Sender.TheVariants as sender
 use Rattle.step_lines.specs.declared.step.ChunkName.{ChunkName}

@@ -12,7 +12,8 @@ use Rattle.relay_conf.specs.declared.output.Output.TheVariants as output
 use Rattle.relay_net.specs.Network.{Network, place_of, output_at}
 use Rattle.relay_net.specs.Outputs.{Keeps}
 use Rattle.custody_steps.specs.World.{World}
-use Rattle.custody_steps.specs.Steps.{Allowed, effect, OfChunk, IsAnswered, Forwards, Stores, GivesUp, DropsOldest, with_named, with_stored, output_named}
+use Rattle.custody_steps.specs.Rules.{Allowed, effect}
+use Rattle.custody_steps.specs.Steps.{OfChunk, IsAnswered, Forwards, Stores, GivesUp, DropsOldest, with_named, with_stored, output_named}
 use Rattle.step_lines.specs.declared.step.ChunkName.{ChunkName}
 use Rattle.step_lines.specs.declared.step.Step.TheVariants as step
 use Rattle.relay_net.specs.Routed.{SendsTo, Follows}

@@ -12,7 +12,8 @@ use Rattle.relay_net.specs.Network.{Network, entrance, address_of_client}
 use Rattle.relay_net.specs.Ways.{HasLoop, table_at}
 use Rattle.route_graph.specs.Ways.{HaveTag, IsLeaf}
 use Rattle.custody_steps.specs.World.{World, with_buffer}
-use Rattle.custody_steps.specs.Steps.{Allowed, effect, CanBegin, CanAppend, CanAcknowledge, tag_of}
+use Rattle.custody_steps.specs.Rules.{Allowed, effect}
+use Rattle.custody_steps.specs.Steps.{CanBegin, CanAppend, CanAcknowledge, tag_of}
 use Rattle.step_lines.specs.declared.step.Step.TheVariants as step
 use Rattle.custody_store.proofs.Lists.{some_and}
 use Rattle.loss_rules.proofs.Members.{map-contains}

@@ -1,7 +1,8 @@
 -- Runs, step by step.
 use Rattle.std.proofs.Common.{◌++◌, [], ◌∷◌, List, refl}
 use Rattle.relay_net.specs.Network.{Network}
-use Rattle.custody_steps.specs.Steps.{Names, Allowed, Steps, effect}
+use Rattle.custody_steps.specs.Rules.{Names, Allowed, effect}
+use Rattle.custody_steps.specs.Steps.{Steps}
 use Rattle.custody_steps.specs.World.{World}
 use Rattle.step_lines.specs.declared.step.Step.{Step}
 

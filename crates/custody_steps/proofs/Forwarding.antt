@@ -16,7 +16,8 @@ use Rattle.relay_net.specs.Outputs.{servers_of}
 use Rattle.step_lines.specs.declared.step.ChunkName.{ChunkName}
 use Rattle.step_lines.specs.declared.step.Step.TheVariants as step
 use Rattle.custody_steps.specs.Found.{IsFound, chunk_of, sent_on}
-use Rattle.custody_steps.specs.Steps.{Answers, Names, Allowed, Forwards, chunk_named, output_named, effect}
+use Rattle.custody_steps.specs.Rules.{Names, Allowed, effect}
+use Rattle.custody_steps.specs.Steps.{Answers, Forwards, chunk_named, output_named}
 use Rattle.custody_steps.specs.World.{World}
 use Rattle.custody_steps.specs.declared.fault.StepFault.TheVariants as fault
 use Rattle.custody_steps.specs.declared.found.Found.{Found}

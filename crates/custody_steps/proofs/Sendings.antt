@@ -7,7 +7,8 @@ use Rattle.relay_net.specs.Network.{Network, entrance}
 use Rattle.relay_net.specs.Ways.{HasLoop}
 use Rattle.relay_net.specs.declared.address.Entrance.{Entrance}
 use Rattle.step_lines.specs.declared.step.Step.TheVariants as step
-use Rattle.custody_steps.specs.Steps.{Answers, Allowed, MayRunOut, tag_of}
+use Rattle.custody_steps.specs.Rules.{Allowed}
+use Rattle.custody_steps.specs.Steps.{Answers, MayRunOut, tag_of}
 use Rattle.custody_steps.specs.World.{World}
 use Rattle.custody_steps.specs.declared.fault.StepFault.TheVariants as fault
 use Rattle.custody_steps.proofs.Delivered.{got_within}

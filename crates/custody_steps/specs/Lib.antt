@@ -4,6 +4,7 @@ pub mod Found
 pub mod Held
 pub mod Open
 pub mod Restarts
+pub mod Rules
 pub mod Steps
 pub mod World
 pub mod WorldOf

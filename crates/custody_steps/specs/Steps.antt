@@ -145,15 +145,14 @@ with_stored net w name those = option_map_or
 -- the messages after the chunk was sent to the server, if that is there
 abbrev pub forwarded_to : {A : Type 0} → List Message → Sender → Chunk → Option (Server A)
     → List Message
-forwarded_to messages sender chunk None = messages
-forwarded_to messages sender chunk (Some server) =
-    messages ++ record {
+forwarded_to messages sender chunk server = option_map_or
+    (λ to. messages ++ record {
       sender = sender;
-      address = address_of_server server;
+      address = address_of_server to;
       tag = chunk.tag;
       entries = chunk.entries;
       acknowledged = false;
-    } ∷ []
+    } ∷ []) server messages
 
 -- the world after this happened to an open delivery and its message
 abbrev pub with_delivery : World → ℕ → (Delivery → Message → World) → World
@@ -301,26 +300,15 @@ rule_of_step net w (step.Restart relay) = record {
       }) (place_of net relay) w;
 }
 
--- Everything that the step names is there.
-abbrev pub Names : {A : Type 0} → Network A → World → Step A → Type 0
-Names net w s = (rule_of_step net w s).names
-
--- What the step asks for holds.
-abbrev pub Allowed : {A : Type 0} → Network A → World → Step A → Type 0
-Allowed net w s = (rule_of_step net w s).allowed
-
--- the world after the step
-abbrev pub effect : {A : Type 0} → Network A → World → Step A → World
-effect net w s = (rule_of_step net w s).after
-
 -- Whole runs.
 
--- Each step of the list is allowed where it is taken, and they lead from the one world to the
--- other.
+-- Where each step of the list is taken, what it names is there and what it asks for holds, and they
+-- lead from the one world to the other.
 abbrev pub Steps : {A : Type 0} → Network A → World → List (Step A) → World → Type 0
 Steps net before [] after = after ≡ before
-Steps net before (first ∷ steps) after = Names net before first × Allowed net before first
-    × Steps net (effect net before first) steps after
+Steps net before (first ∷ steps) after = (rule_of_step net before first).names
+    × (rule_of_step net before first).allowed
+    × Steps net (rule_of_step net before first).after steps after
 
 -- Memory may run out in this step. Where an event goes is looked for in memory, so that it may
 -- before it is known whether the way, or the length of the tag with its prefix, allows the step;
@@ -332,14 +320,15 @@ MayRunOut net w (step.Append delivery buffer serial) =
     OfDelivery w delivery (λ d m. (d.is_open ≡ true) × (¬ Contains d.appended buffer)
     × CanTake (w.buffers d.entrance.relay buffer) d.tag serial)
 MayRunOut net w (step.Ack delivery) = OfDelivery w delivery (λ d m. d.is_open ≡ true)
-MayRunOut net w other = Allowed net w other
+MayRunOut net w other = (rule_of_step net w other).allowed
 
 -- The step is refused for this reason: it names what isn't there, or else isn't allowed, or memory
 -- ran out.
 abbrev pub IsRefused : {A : Type 0} → Network A → World → Step A → StepFault → Type 0
-IsRefused net w s fault.NoSuch = ¬ Names net w s
-IsRefused net w s fault.NotAllowed = Names net w s × (¬ Allowed net w s)
-IsRefused net w s fault.Memory = Names net w s × MayRunOut net w s
+IsRefused net w s fault.NoSuch = ¬ (rule_of_step net w s).names
+IsRefused net w s fault.NotAllowed = (rule_of_step net w s).names
+    × (¬ (rule_of_step net w s).allowed)
+IsRefused net w s fault.Memory = (rule_of_step net w s).names × MayRunOut net w s
 
 -- The step of this number, counted from 1, is the first of the list that is refused, for this
 -- reason.
@@ -373,5 +362,6 @@ Answer names allowed known before after effect (Err fault.Memory) = names × kno
 -- what an answer to the step must mean
 abbrev pub Answers : {A : Type 0} → Network A → World → Step A → World → Result (Unit {0}) StepFault
     → Type 0
-Answers net before s after result = Answer (Names net before s) (Allowed net before s)
-    (MayRunOut net before s) before after (effect net before s) result
+Answers net before s after result = Answer (rule_of_step net before s).names
+    (rule_of_step net before s).allowed (MayRunOut net before s) before after
+    (rule_of_step net before s).after result

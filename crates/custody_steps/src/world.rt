@@ -50,7 +50,7 @@ impl<'n, A: Allocator + Copy> World<'n, A> {
     ghost use Rattle.custody_store.specs.Branches.{EachKeeps};
     ghost use Rattle.custody_steps.specs.Branches.{IsKeptEveryAnswer, IsKeptSoAnswer, KeepsSo};
     ghost use Rattle.custody_steps.specs.Held.{Held, HeldAs, IsKeptAnswer};
-    ghost use Rattle.custody_steps.specs.Steps.{Answers, Names, Allowed, IsRefused, chunk_named, effect, sink_named};
+    ghost use Rattle.custody_steps.specs.Steps.{Answers, IsRefused, chunk_named, rule_of_step, sink_named};
     ghost use Rattle.custody_steps.specs.World.{initial_world};
     ghost use Rattle.custody_steps.specs.WorldOf.{world_of, net_of};
 
@@ -334,9 +334,10 @@ impl<'n, A: Allocator + Copy> World<'n, A> {
     pub fn step(&mut self, step: &Step<A>) -> Result<(), StepFault>
         ensures net { net_of self.new ≡ net_of self.old }
         ensures ok { OnOk result
-            (Names (net_of self.old) (world_of self.old) step.now
-            × Allowed (net_of self.old) (world_of self.old) step.now
-            × (world_of self.new ≡ effect (net_of self.old) (world_of self.old) step.now)) }
+            ((rule_of_step (net_of self.old) (world_of self.old) step.now).names
+            × (rule_of_step (net_of self.old) (world_of self.old) step.now).allowed
+            × (world_of self.new
+            ≡ (rule_of_step (net_of self.old) (world_of self.old) step.now).after)) }
         ensures refused { IfErr result (IsRefused (net_of self.old) (world_of self.old) step.now) }
         ensures unchanged { OnErr result (world_of self.new ≡ world_of self.old) }
     {

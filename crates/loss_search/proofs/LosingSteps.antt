@@ -6,7 +6,8 @@ use Rattle.std.proofs.lemmas.List.{length-map}
 use Rattle.std.proofs.lemmas.Option.{slice_get_cases, slice_get_within}
 use Rattle.custody_core.specs.Custody.{IsKeptAs}
 use Rattle.custody_core.proofs.Lists.{contains-get, get-contains}
-use Rattle.custody_steps.specs.Steps.{Allowed, IsRefusedAt, Names, Steps, effect}
+use Rattle.custody_steps.specs.Rules.{Allowed, Names, effect}
+use Rattle.custody_steps.specs.Steps.{IsRefusedAt, Steps}
 use Rattle.custody_steps.specs.World.{World, initial_world}
 use Rattle.custody_steps.specs.declared.fault.StepFault.{StepFault}
 use Rattle.custody_steps.specs.declared.fault.StepFault.TheVariants as fault

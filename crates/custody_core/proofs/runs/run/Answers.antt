@@ -1,7 +1,8 @@
 use Rattle.std.proofs.Common.{◌≡◌, suc, take, drop, sym, subst, ◌∙◌, arith}
 use Rattle.std.proofs.lemmas.List.{length-take-le, take_all}
 use Rattle.relay_net.specs.Network.{Network}
-use Rattle.custody_steps.specs.Steps.{Names, Allowed, IsRefused, Steps, effect}
+use Rattle.custody_steps.specs.Rules.{Names, Allowed, effect}
+use Rattle.custody_steps.specs.Steps.{IsRefused, Steps}
 use Rattle.custody_steps.specs.World.{initial_world}
 use Rattle.custody_steps.specs.WorldOf.{world_of}
 use Rattle.custody_core.proofs.EveryBranch.{each_branch}
