@@ -8,7 +8,7 @@ use Rattle.custody_store.specs.declared.sender.Sender.{Sender}
 use Rattle.custody_store.specs.declared.sender.Sender.TheVariants as sender
 use Rattle.relay_net.specs.Addresses.{Address}
 use Rattle.relay_net.specs.Network.{Network}
-use Rattle.custody_store.specs.Branches.{Reaches, IsFromBuffer, KeepsAlong, has, passed, EachKeeps}
+use Rattle.custody_store.specs.Branches.{Reaches, KeepsAlong, has, passed, EachKeeps}
 use Rattle.custody_core.proofs.Serials.{event_of, and_some}
 use Rattle.custody_core.proofs.Safe.{Buffers, Ranking, KeepsAt, IsHeldFrom, lower}
 
@@ -38,9 +38,6 @@ pub record EachFrom {A : Type 0} (net : Network A) (ranks : Ranking) (buffers : 
   pub leaf : Reaches net address tag place buffer borne
   pub each : (p b : ℕ) (t : List ℕ) → Reaches net address tag p b t → KeepsFrom net ranks buffers messages entry rank p b t
 
-from_buffer : (place buffer serial : ℕ) (s : Sender) → s ≡ sender.Chunk place buffer serial → IsFromBuffer place buffer s
-from_buffer place buffer serial s is = subst (IsFromBuffer place buffer) (sym is) (refl, refl)
-
 module _ {A : Type 0} (net : Network A) (ranks : Ranking) (buffers : Buffers) (messages : List Message) (entry : List ℕ) where
   -- what is kept above a rank is kept
   pub along : {rank place buffer : ℕ} {tag : List ℕ} → KeepsFrom net ranks buffers messages entry rank place buffer tag → KeepsAlong net buffers messages entry place buffer tag
@@ -48,7 +45,7 @@ module _ {A : Type 0} (net : Network A) (ranks : Ranking) (buffers : Buffers) (m
   along {rank} {place} {buffer} {tag} (in_chunk keeps held) = has (inl (held.serial, and_some _ (λ c. IsInChunk c (event_of tag entry)) held.chunk held.there held.inside))
   along {rank} {place} {buffer} {tag} (went_on serial number message keeps high on p b t first each) =
       passed message (get-contains messages message number on.there)
-      (record { from = from_buffer place buffer serial message.sender on.from; tag_is = on.tag_is; inside = on.inside; answered = on.answered })
+      (record { from = (serial, on.from); tag_is = on.tag_is; inside = on.inside; answered = on.answered })
       p b t first (λ q c s r. along (each q c s r))
 
   -- and above each lesser one

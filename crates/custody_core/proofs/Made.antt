@@ -18,7 +18,7 @@ use Rattle.custody_store.specs.Book.{Message, Delivery, Told, ended}
 use Rattle.custody_steps.specs.World.{World, initial_world, with_buffer}
 use Rattle.custody_steps.specs.Rules.{Allowed, effect}
 use Rattle.custody_steps.specs.Steps.{Steps, CanBegin, CanAppend, tag_of, with_named, with_stored, with_delivery, forwarded_to, chunk_named}
-use Rattle.custody_core.specs.Custody.{IsClient, NothingIsMadeUp}
+use Rattle.custody_core.specs.Custody.{NothingIsMadeUp}
 use Rattle.custody_store.specs.declared.sender.Sender.TheVariants as sender
 use Rattle.step_lines.specs.declared.step.ChunkName.{ChunkName}
 use Rattle.step_lines.specs.declared.step.Step.{Step}
@@ -36,7 +36,7 @@ pub record IsFrom {A : Type 0} (net : Network A) (messages : List Message) (addr
   pub number : ℕ
   pub message : Message
   pub there : slice_get messages number ≡ Some message
-  pub client : IsClient message.sender
+  pub client : (number : ℕ) × (message.sender ≡ sender.Client number)
   pub among : Contains message.entries entry
   pub follows : Follows net message.address message.tag address tag
 
@@ -46,7 +46,7 @@ pub record IsBorneFrom {A : Type 0} (net : Network A) (messages : List Message) 
   pub number : ℕ
   pub message : Message
   pub there : slice_get messages number ≡ Some message
-  pub client : IsClient message.sender
+  pub client : (number : ℕ) × (message.sender ≡ sender.Client number)
   pub among : Contains message.entries event.entry
   pub borne : IsBorne net message.address message.tag place buffer event.tag
 
@@ -179,7 +179,7 @@ module _ {A : Type 0} (net : Network A) (w : World) (is : IsHonest net w) where
   send_honest client tag entries = honest_or net w _ (slice_get net.clients client) is (λ found e.
       messages_honest (w.messages ++ _ ∷ []) w.buffers (follow_more w.messages (_ ∷ [])) is.buffers
       (pushed_each (record { sender = sender.Client client; address = address_of_client net found; tag = tag; entries = map (λ entry. entry.items) entries.items; acknowledged = false })
-      (λ entry inside. record { number = length w.messages; message = _; there = last-get w.messages _; client = tt; among = inside; follows = sent }))
+      (λ entry inside. record { number = length w.messages; message = _; there = last-get w.messages _; client = (client, refl); among = inside; follows = sent }))
       w.deliveries is.deliveries w.acknowledged)
 
   delivery_honest : (number : ℕ) (change : Delivery → Message → World) → ((d : Delivery) (m : Message) → slice_get w.deliveries number ≡ Some d → slice_get w.messages d.message ≡ Some m → IsHonest net (change d m)) → IsHonest net (with_delivery w number change)

@@ -116,12 +116,20 @@ module _ {A : Type 0} (net : Network A) where
         by true less behind = (x, refl)
         by false less behind = let more : rank_in steps p b s + 1 ≡ suc (rank_in steps p b s) = omega arith in rw more (behind (omega (arith, less)))
 
+    -- a step that names the chunk queues it
+    queued_at : (steps : List (Step A)) (at : ℕ) (name : ChunkName) → slice_get steps at ≡ Some (step.Enqueue name) → place_of net name.relay ≡ Some p → name.buffer ≡ b → name.serial ≡ s → IsQueuedAt net steps p b s at
+    queued_at steps at name there place buffer serial = record {
+      relay = name.relay;
+      place_is = place;
+      there = there ∙ (λ i. Some (step.Enqueue (record { relay = name.relay; buffer = buffer i; serial = serial i })));
+    }
+
     -- where a step queues the chunk, it has its rank
     pub rank_so : (steps : List (Step A)) → rank_in steps p b s < length steps → IsRank net steps p b s (rank_in steps p b s)
     rank_so steps less =
         let there = rank_there steps less in
         let it = queues_it there.0 p b s (rank_queues steps (rank_in steps p b s) there.0 there.1 refl) in
         record {
-          queued = record { name = it.0; there = rw (← it.1) there.1; place_is = it.2; buffer_is = it.3; serial_is = it.4 };
-          first = λ at early q. (let le = rank_least steps at (step.Enqueue q.name) q.there (queues_so q.name p b s q.place_is q.buffer_is q.serial_is) in omega (arith, early, le));
+          queued = queued_at steps (rank_in steps p b s) it.0 (rw (← it.1) there.1) it.2 it.3 it.4;
+          first = λ at early q. (let le = rank_least steps at _ q.there (queues_so (record { relay = q.relay; buffer = b; serial = s }) p b s q.place_is refl refl) in omega (arith, early, le));
         }

@@ -1,10 +1,9 @@
 -- What a network never loses, and where what it holds came from.
-use Rattle.std.specs.Prelude.{ℕ, All, Any, Contains}
+use Rattle.std.specs.Prelude.{◌≡◌, ℕ, All, Any, Contains}
 use Rattle.custody_store.specs.Buffers.{Event}
 use Rattle.loss_rules.specs.declared.label.Duty.{Duty}
 use Rattle.loss_rules.specs.declared.label.Duty.TheVariants as duty
 use Rattle.custody_store.specs.Book.{Message, Told}
-use Rattle.custody_store.specs.declared.sender.Sender.{Sender}
 use Rattle.custody_store.specs.declared.sender.Sender.TheVariants as sender
 use Rattle.relay_net.specs.Network.{Network}
 use Rattle.relay_net.specs.Routed.{IsRoutedTag}
@@ -12,16 +11,11 @@ use Rattle.custody_steps.specs.Branches.{IsKeptEvery}
 use Rattle.custody_steps.specs.Held.{IsKept}
 use Rattle.custody_steps.specs.World.{World}
 
--- the sender is a client
-abbrev pub IsClient : Sender → Type 0
-IsClient (sender.Client client) = Unit {0}
-IsClient (sender.Chunk place buffer serial) = ⊥
-
 -- The message has this event's entry, a client sent it, and the event's tag is one that it may
 -- bear.
 pub record IsOriginOf {A : Type 0} (net : Network A) (event : Event)
     (message : Message) : Type 0 where
-  pub client : IsClient message.sender
+  pub client : (number : ℕ) × (message.sender ≡ sender.Client number)
   pub tag : IsRoutedTag net message.address message.tag event.tag
   pub entry : Contains message.entries event.entry
 

@@ -9,7 +9,6 @@ use Rattle.relay_net.specs.Addresses.{Address}
 use Rattle.relay_net.specs.Network.{Network, output_at, place_of, address_of_client}
 use Rattle.relay_net.specs.Outputs.{Keeps}
 use Rattle.relay_net.specs.Routed.{IsRoutedTag}
-use Rattle.step_lines.specs.declared.step.ChunkName.{ChunkName}
 use Rattle.step_lines.specs.declared.step.Step.{Step}
 use Rattle.step_lines.specs.declared.step.Step.TheVariants as step
 use Rattle.custody_steps.specs.World.{World}
@@ -21,11 +20,10 @@ KeepsAt net place buffer = IsSomeAnd (output_at net place buffer) Keeps
 -- The step at this place of the list, counted from 0, queues the chunk.
 pub record IsQueuedAt {A : Type 0} (net : Network A) (steps : List (Step A))
     (place buffer serial at : ℕ) : Type 0 where
-  pub name : ChunkName
-  pub there : slice_get steps at ≡ Some (step.Enqueue name)
-  pub place_is : place_of net name.relay ≡ Some place
-  pub buffer_is : name.buffer ≡ buffer
-  pub serial_is : name.serial ≡ serial
+  pub relay : ℕ
+  pub place_is : place_of net relay ≡ Some place
+  pub there : slice_get steps at
+      ≡ Some (step.Enqueue (record { relay = relay; buffer = buffer; serial = serial }))
 
 -- A chunk's rank is the place of the first step that queues it.
 pub record IsRank {A : Type 0} (net : Network A) (steps : List (Step A))

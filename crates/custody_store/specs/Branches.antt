@@ -6,7 +6,6 @@ use Rattle.custody_store.specs.Contents.{buffer_of}
 use Rattle.custody_store.specs.Places.{contents_at}
 use Rattle.custody_store.specs.declared.places.Places.{Places}
 use Rattle.custody_store.specs.Book.{Message}
-use Rattle.custody_store.specs.declared.sender.Sender.{Sender}
 use Rattle.custody_store.specs.declared.sender.Sender.TheVariants as sender
 use Rattle.relay_net.specs.Addresses.{Address}
 use Rattle.relay_net.specs.Network.{Network, entrance, tag_at}
@@ -29,15 +28,10 @@ pub record Reaches {A : Type 0} (net : Network A) (address : Address) (tag : Lis
   pub short : length borne ≤ most_tag_bytes
   pub comes : ComesTo net at borne buffer
 
--- It was sent from a chunk of this buffer.
-abbrev pub IsFromBuffer : ℕ → ℕ → Sender → Type 0
-IsFromBuffer place buffer (sender.Client client) = ⊥
-IsFromBuffer place buffer (sender.Chunk p b serial) = (p ≡ place) × (b ≡ buffer)
-
--- The message was sent from this buffer with the entry under this tag, and acknowledged.
+-- The message was sent from a chunk of this buffer with the entry under this tag, and acknowledged.
 pub record IsPassedOn (entry : List ℕ) (place buffer : ℕ) (tag : List ℕ)
     (message : Message) : Type 0 where
-  pub from : IsFromBuffer place buffer message.sender
+  pub from : (serial : ℕ) × (message.sender ≡ sender.Chunk place buffer serial)
   pub tag_is : message.tag ≡ tag
   pub inside : Contains message.entries entry
   pub answered : message.acknowledged ≡ true

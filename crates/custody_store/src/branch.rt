@@ -1,8 +1,8 @@
 //! Whether an entry is kept where it comes to, as far as some messages are known to have passed it
 //! on to where it is kept.
 
-ghost use Rattle.std.specs.Prelude.{◌↔◌, ◌≢◌, [], All, IfOk, IsSomeAnd, IsTrue, slice_get};
-ghost use Rattle.custody_store.specs.Branches.{buffers_of, IsFromBuffer, IsPassedOn};
+ghost use Rattle.std.specs.Prelude.{◌↔◌, ◌≢◌, [], All, IfOk, IsSomeAnd, IsTrue, slice_get, ℕ, ◌≡◌};
+ghost use Rattle.custody_store.specs.Branches.{buffers_of, IsPassedOn};
 ghost use Rattle.custody_store.specs.Searches.{EachSoFar, IsPassedAmong, IsSettled, KeepsSoFar};
 
 use crate::entering::entered;
@@ -172,7 +172,8 @@ fn is_passed_on<A: Allocator>(
 
 // Whether it was sent from a chunk of this buffer.
 fn is_from(sender: Sender, place: usize, buffer: usize) -> bool
-    ensures { IsTrue result ↔ IsFromBuffer place buffer sender }
+    ensures { IsTrue result
+        ↔ ((serial : ℕ) × (sender ≡ Sender.Chunk place buffer serial)) }
 {
     match sender {
         Sender::Client { number: _ } => false,
