@@ -7,7 +7,7 @@ use Rattle.relay_net.specs.Addresses.{Address}
 use Rattle.relay_net.specs.declared.address.Entrance.{Entrance}
 use Rattle.custody_store.specs.declared.message.Acknowledged.{Acknowledged}
 use Rattle.custody_store.specs.declared.sender.Sender.{Sender}
-use Rattle.custody_store.specs.declared.sender.Sender.TheVariants.{Client, Chunk}
+use Rattle.custody_store.specs.declared.sender.Sender.TheVariants.{Client}
 
 -- A message that was sent to an address. An acknowledgement of it was given to its sender, or not
 -- yet.
@@ -75,8 +75,7 @@ acknowledged_message message = record message { acknowledged = true }
 -- the first time
 abbrev pub newly_acknowledged : Sender → Bool → List ℕ → List (List ℕ) → List Told
 newly_acknowledged (Client number) false tag entries = told_to number tag entries
-newly_acknowledged (Client number) true tag entries = []
-newly_acknowledged (Chunk place buffer serial) before tag entries = []
+newly_acknowledged _ before tag entries = []
 
 -- the same of a message
 abbrev pub events_told : Message → List Told

@@ -1,5 +1,6 @@
 -- A buffer with the sink of its output: what it holds, and what may happen to it.
 use Rattle.std.specs.Prelude.{◌≡◌, ℕ, zero, suc, ◌+◌, ◌==◌, ◌&&◌, not, Bool, true, false, cond, List, ◌++◌, map, Option, Some, None, option_map, Contains, IsSomeAnd, ◌⊎◌}
+use Rattle.std.specs.Option.{option_map_or}
 use Rattle.custody_store.specs.declared.chunk.Stage.{Stage}
 use Rattle.custody_store.specs.declared.chunk.Stage.TheVariants.{Staged, Queued, Claimed}
 
@@ -71,8 +72,7 @@ is_queued_at Claimed = false
 
 -- whether there is a chunk, and it is queued
 abbrev pub is_queued : Option Chunk → Bool
-is_queued None = false
-is_queued (Some chunk) = is_queued_at chunk.stage
+is_queued slot = option_map_or (λ chunk. is_queued_at chunk.stage) slot false
 
 -- no chunk of a lesser serial is queued
 abbrev pub none_queued_below : ℕ → (ℕ → Option Chunk) → Bool
