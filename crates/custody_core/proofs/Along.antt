@@ -1,10 +1,9 @@
 -- Events that are kept along a branch above a rank: in a sink, in a chunk which ranks so high, or
 -- by all to which a chunk that ranks so high was passed on.
-use Rattle.std.proofs.Common.{◌≡◌, ℕ, ◌+◌, ◌<◌, ◌≤◌, true, List, Some, slice_get, refl, sym, subst, inl, inr, arith, Contains}
+use Rattle.std.proofs.Common.{◌≡◌, ℕ, ◌+◌, ◌<◌, ◌≤◌, true, List, Some, slice_get, sym, subst, inl, inr, arith, Contains}
 use Rattle.custody_store.specs.Buffers.{Event, IsInChunk}
 use Rattle.custody_store.proofs.Members.{get-contains}
 use Rattle.custody_store.specs.Book.{Message}
-use Rattle.custody_store.specs.declared.sender.Sender.{Sender}
 use Rattle.custody_store.specs.declared.sender.Sender.TheVariants as sender
 use Rattle.relay_net.specs.Addresses.{Address}
 use Rattle.relay_net.specs.Network.{Network}

@@ -5,7 +5,6 @@ ghost use Rattle.custody_core.specs.Custody.{EachBranchKeeps, NothingIsLost, Not
 ghost use Rattle.custody_core.specs.Onward.{AreHeldOnward};
 ghost use Rattle.custody_steps.specs.Steps.{Steps, IsRefusedAt};
 ghost use Rattle.custody_steps.specs.World.{initial_world};
-ghost use Rattle.custody_steps.specs.WorldOf.{world_of, net_of};
 ghost use Rattle.loss_rules.specs.Rules.{AreKeepingRulesKept, EachOutputKeeps};
 ghost use Rattle.loss_rules.specs.Sites.{BuffersAreDistinct};
 ghost use Rattle.loss_rules.specs.declared.label.Label.{Label};
@@ -34,20 +33,20 @@ pub fn run<'n, A: Allocator + Copy>(
     net: &'n Net<A>,
     steps: &[Step<A>],
 ) -> Result<World<'n, A>, (usize, StepFault)>
-    ensures net { IfOk result (λ w. net_of w ≡ net.now) }
-    ensures taken { IfOk result (λ w. Steps net.now initial_world steps.now (world_of w)) }
+    ensures net { IfOk result (λ w. w.net.now ≡ net.now) }
+    ensures taken { IfOk result (λ w. Steps net.now initial_world steps.now w.shown.world) }
     ensures refused { IfErr result (λ e. IsRefusedAt net.now steps.now e.0 e.1) }
     ensures labelled_nothing_is_lost { (labels : List (Label A)) (reaches : List (Reach A))
         → BuffersAreDistinct net.now → AreKeepingRulesKept net.now labels reaches
-        → IfOk result (λ w. NothingIsLost net.now (world_of w)) }
+        → IfOk result (λ w. NothingIsLost net.now w.shown.world) }
     ensures held_onward { (labels : List (Label A)) (reaches : List (Reach A))
         → BuffersAreDistinct net.now → AreKeepingRulesKept net.now labels reaches
-        → IfOk result (λ w. AreHeldOnward net.now steps.now (world_of w)) }
+        → IfOk result (λ w. AreHeldOnward net.now steps.now w.shown.world) }
     ensures each_branch_keeps { (labels : List (Label A)) (reaches : List (Reach A))
         → BuffersAreDistinct net.now → AreKeepingRulesKept net.now labels reaches
         → EachOutputKeeps net.now reaches
-        → IfOk result (λ w. EachBranchKeeps net.now (world_of w)) }
-    ensures nothing_is_made_up { IfOk result (λ w. NothingIsMadeUp net.now (world_of w)) }
+        → IfOk result (λ w. EachBranchKeeps net.now w.shown.world) }
+    ensures nothing_is_made_up { IfOk result (λ w. NothingIsMadeUp net.now w.shown.world) }
 {
     let mut world = World::new(alloc, net);
     for (place, step) in steps.iter().enumerate() {

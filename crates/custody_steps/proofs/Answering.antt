@@ -10,7 +10,7 @@ use Rattle.custody_store.specs.Book.{Message, Book, changed_at, acknowledged_mes
 use Rattle.custody_store.specs.declared.sender.Sender.{Sender}
 use Rattle.custody_store.specs.declared.sender.Sender.TheVariants as sender
 use Rattle.custody_steps.specs.Answers.{is_from, is_answer}
-use Rattle.custody_steps.specs.WorldOf.{world_from, deliveries_from}
+use Rattle.custody_steps.specs.WorldFrom.{world_from, deliveries_from}
 use Rattle.custody_steps.proofs.Delivered.{changed_at-there}
 use Rattle.custody_steps.proofs.Views.{KnowAnswers}
 

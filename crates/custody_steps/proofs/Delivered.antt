@@ -6,7 +6,7 @@ use Rattle.custody_store.specs.Book.{Message, Delivery, changed_at, acknowledged
 use Rattle.relay_net.specs.Network.{Network}
 use Rattle.relay_net.specs.Ways.{HasLoop}
 use Rattle.custody_steps.specs.Open.{AreOfMessages, HaveNoLoops}
-use Rattle.custody_steps.specs.WorldOf.{open_after, deliveries_from}
+use Rattle.custody_steps.specs.WorldFrom.{open_after, deliveries_from}
 
 -- Lists of which one element came or changed.
 

@@ -2,7 +2,7 @@
 use Rattle.std.proofs.Common.{◌≡◌, ℕ, zero, suc, ◌+◌, ◌<◌, ◌≤◌, ◌==◌, ◌&&◌, not, Bool, true, false, cond, List, [], ◌∷◌, ◌++◌, map, length, Some, option_map, slice_get, slice_set, refl, ap, ◌∙◌, arith, nat_lt}
 use Rattle.std.proofs.lemmas.Bool.{lt-ltb, le-ltb}
 use Rattle.custody_store.specs.Book.{Delivery, ended}
-use Rattle.custody_steps.specs.WorldOf.{open_after, deliveries_from}
+use Rattle.custody_steps.specs.WorldFrom.{open_after, deliveries_from}
 
 pub get-from : (closed : ℕ → ℕ) (number : ℕ) (ds : List Delivery) (k : ℕ) → slice_get (deliveries_from closed number ds) k ≡ option_map (open_after closed (number + k)) (slice_get ds k)
 get-from closed number [] k = refl

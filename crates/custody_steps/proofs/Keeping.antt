@@ -18,7 +18,7 @@ use Rattle.custody_steps.specs.declared.world.World.{World as Kept}
 use Rattle.custody_steps.specs.Open.{AreOfMessages, HaveNoLoops}
 use Rattle.custody_steps.specs.Steps.{OfDelivery, with_appended}
 use Rattle.custody_steps.specs.World.{World, with_buffer}
-use Rattle.custody_steps.specs.WorldOf.{world_from, open_after}
+use Rattle.custody_steps.specs.WorldFrom.{Shown, world_from, open_after}
 use Rattle.custody_steps.proofs.Answering as answering
 use Rattle.custody_steps.proofs.Delivered as delivered
 use Rattle.custody_steps.proofs.Deliveries.{delivery_at, length-from, opened_last}
@@ -30,6 +30,11 @@ pub record Known {A B : Type 0} (net : Network B) (places : Places A) (book : Bo
   pub closed : (p : ℕ) → closed_at places p ≤ length book.deliveries
   pub sent : AreOfMessages book.messages book.deliveries
   pub ending : HaveNoLoops net book.messages book.deliveries
+  pub shown : Shown places book
+
+-- the world of these, as it is shown
+pub shown_of : {A : Type 0} (places : Places A) (book : Book) → Shown places book
+shown_of places book = record { world = world_from places book; is = refl }
 
 module _ {A B : Type 0} (net : Network B) (before after : Places A) (book : Book) (known : Known net before book) where
   -- nothing changed but for room
@@ -39,6 +44,7 @@ module _ {A B : Type 0} (net : Network B) (before after : Places A) (book : Book
     closed = same_closed before after same (length book.deliveries) known.closed;
     sent = known.sent;
     ending = known.ending;
+    shown = shown_of _ _;
   }
 
   -- one buffer changed, but no answer of it
@@ -48,6 +54,7 @@ module _ {A B : Type 0} (net : Network B) (before after : Places A) (book : Book
     closed = changed_closed before after place buffer new is (length book.deliveries) known.closed;
     sent = known.sent;
     ending = known.ending;
+    shown = shown_of _ _;
   }
 
   -- an answer wasn't kept for want of memory
@@ -58,6 +65,7 @@ module _ {A B : Type 0} (net : Network B) (before after : Places A) (book : Book
     closed = answering.flagged_closed before after place buffer 0 is (length book.deliveries) known.closed;
     sent = known.sent;
     ending = known.ending;
+    shown = shown_of _ _;
   }
 
   -- a chunk's message was acknowledged, and its answer kept
@@ -70,6 +78,7 @@ module _ {A B : Type 0} (net : Network B) (before after : Places A) (book : Book
     closed = answering.flagged_closed before after place buffer serial is (length book.deliveries) known.closed;
     sent = delivered.of_messages-marked book.messages n book.deliveries known.sent;
     ending = delivered.no_loops-marked net book.messages n book.deliveries known.ending;
+    shown = shown_of _ _;
   })
 
 module _ {A B : Type 0} (net : Network B) (places : Places A) (book new : Book) (known : Known net places book) where
@@ -80,6 +89,7 @@ module _ {A B : Type 0} (net : Network B) (places : Places A) (book new : Book) 
     closed = known.closed;
     sent = delivered.of_messages-sent book.messages m book.deliveries known.sent;
     ending = delivered.no_loops-sent net book.messages m book.deliveries known.sent known.ending;
+    shown = shown_of _ _;
   })
 
   -- a client's message was acknowledged
@@ -90,6 +100,7 @@ module _ {A B : Type 0} (net : Network B) (places : Places A) (book new : Book) 
     closed = known.closed;
     sent = delivered.of_messages-marked book.messages n book.deliveries known.sent;
     ending = delivered.no_loops-marked net book.messages n book.deliveries known.ending;
+    shown = shown_of _ _;
   })
 
   -- a delivery was opened
@@ -100,6 +111,7 @@ module _ {A B : Type 0} (net : Network B) (places : Places A) (book new : Book) 
     closed = λ p. let most = known.closed p in let longer = length_push book.deliveries d in omega arith;
     sent = delivered.of_messages-opened book.messages book.deliveries d known.sent less;
     ending = delivered.no_loops-opened net book.messages book.deliveries d known.ending ends;
+    shown = shown_of _ _;
   })
 
   -- a delivery changed, but not what it is of
@@ -109,11 +121,12 @@ module _ {A B : Type 0} (net : Network B) (places : Places A) (book new : Book) 
     closed = λ p. let most = known.closed p in let longer = delivered.length-changed_at change book.deliveries n in omega arith;
     sent = delivered.of_messages-changed change book.messages book.deliveries n same known.sent;
     ending = delivered.no_loops-changed net change book.messages book.deliveries n same known.ending;
+    shown = shown_of _ _;
   })
 
   -- room was made
   pub known_room : (room : List ℕ) → new ≡ record book { room = room } → Known net places new
-  known_room room new_is = rw new_is (record { answers = known.answers; closed = known.closed; sent = known.sent; ending = known.ending })
+  known_room room new_is = rw new_is (record { answers = known.answers; closed = known.closed; sent = known.sent; ending = known.ending; shown = shown_of _ _ })
 
 -- What the world shows of the book.
 
@@ -185,7 +198,7 @@ at_error (Err e) q = q
 
 -- what is known of a world that is kept
 pub known_of : {A : Type 0} (w : Kept A) → Known w.net.now w.places w.book
-known_of w = record { answers = w.answers; closed = w.closed; sent = w.sent; ending = w.ending }
+known_of w = record { answers = w.answers; closed = w.closed; sent = w.sent; ending = w.ending; shown = w.shown }
 
 -- what is known after a call that may fail
 pub either : {T E P Q K : Type 0} (r : Result T E) → OnOk r P → OnErr r Q → (P → K) → (Q → K) → K

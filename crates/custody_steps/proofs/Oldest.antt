@@ -12,7 +12,7 @@ use Rattle.custody_store.proofs.ChunksAt.{buffer_of-changed}
 use Rattle.custody_store.specs.Book.{Book}
 use Rattle.custody_steps.specs.Steps.{HasQueued}
 use Rattle.custody_steps.specs.World.{World, with_buffer}
-use Rattle.custody_steps.specs.WorldOf.{world_from}
+use Rattle.custody_steps.specs.WorldFrom.{world_from}
 use Rattle.custody_steps.proofs.Views.{changed_world, same_world}
 
 -- where none below is queued, one below isn't

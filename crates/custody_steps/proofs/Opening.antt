@@ -5,7 +5,7 @@ use Rattle.custody_store.specs.Places.{contents_at, closed_at}
 use Rattle.custody_store.specs.declared.places.Places.{Places}
 use Rattle.custody_store.specs.Book.{Book, empty_book}
 use Rattle.relay_net.specs.Network.{Network}
-use Rattle.custody_steps.proofs.Keeping.{Known}
+use Rattle.custody_steps.proofs.Keeping.{Known, shown_of}
 
 nothing_there : {X : Type 0} {P : Type 0} (n : ℕ) (x : X) → slice_get [] n ≡ Some x → P
 nothing_there n x is = absurd (cc)
@@ -16,4 +16,5 @@ known_opening net places book contents closed is = subst (Known net places) (sym
   closed = λ p. let e = closed p in omega arith;
   sent = λ k d at. nothing_there k d at;
   ending = λ k d m at sent. nothing_there k d at;
+  shown = shown_of _ _;
 })

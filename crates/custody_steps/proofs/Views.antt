@@ -21,7 +21,7 @@ use Rattle.custody_steps.specs.Found.{IsFound, chunk_of, with_found, stored_foun
 use Rattle.custody_steps.specs.Restarts.{restarted_contents, AreRestarted}
 use Rattle.custody_steps.specs.Steps.{with_named, with_stored}
 use Rattle.custody_steps.specs.World.{World, with_buffer}
-use Rattle.custody_steps.specs.WorldOf.{world_from, deliveries_from}
+use Rattle.custody_steps.specs.WorldFrom.{world_from, deliveries_from}
 use Rattle.custody_steps.specs.declared.found.Found.{Found}
 use Rattle.custody_steps.proofs.Deliveries.{all_closed}
 

@@ -7,4 +7,5 @@ pub mod Restarts
 pub mod Rules
 pub mod Steps
 pub mod World
+pub mod WorldFrom
 pub mod WorldOf

@@ -22,7 +22,8 @@ impl<'n, A: Allocator + Copy> World<'n, A> {
     ghost use Rattle.relay_net.specs.Outputs.{servers_of};
     ghost use Rattle.custody_steps.specs.Found.{chunk_of, sent_on};
     ghost use Rattle.custody_steps.specs.Steps.{Answers, OfDelivery, CanAppend, CanAcknowledge, tag_of, with_appended};
-    ghost use Rattle.custody_steps.specs.WorldOf.{world_of, net_of, open_after};
+    ghost use Rattle.custody_steps.specs.WorldFrom.{open_after};
+    ghost use Rattle.custody_steps.specs.WorldOf.{world_of, net_of};
     ghost use Rattle.custody_store.specs.Places.{closed_at};
 
     // A client sends a message to its source.

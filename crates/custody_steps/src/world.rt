@@ -6,6 +6,7 @@ ghost use Rattle.custody_store.specs.Contents.{flag_at, stored_events};
 ghost use Rattle.custody_store.specs.Places.{contents_at, closed_at};
 ghost use Rattle.custody_steps.specs.Answers.{is_answer};
 ghost use Rattle.custody_steps.specs.Open.{AreOfMessages, HaveNoLoops};
+ghost use Rattle.custody_steps.specs.WorldFrom.{Shown, Shown-prop};
 ghost use Rattle.custody_store.specs.Book.{told_events};
 
 use crate::fault::StepFault;
@@ -28,6 +29,8 @@ pub struct World<'n, A: Allocator> {
     ghost closed: { (p : ℕ) → closed_at places p ≤ length book.deliveries },
     ghost sent: { AreOfMessages book.messages book.deliveries },
     ghost ending: { HaveNoLoops net.now book.messages book.deliveries },
+    /// The network as the steps speak of it.
+    pub ghost shown: { Shown places book } by { Shown-prop places book },
 }
 
 // By hand, so that crates above don't prove again how its parts end.
@@ -56,8 +59,8 @@ impl<'n, A: Allocator + Copy> World<'n, A> {
 
     /// The network before the first step: nothing was sent, and all buffers and sinks are empty.
     pub fn new(alloc: A, net: &'n Net<A>) -> Self
-        ensures net { net_of result ≡ net.now }
-        ensures opening { world_of result ≡ initial_world }
+        ensures net { result.net.now ≡ net.now }
+        ensures opening { result.shown.world ≡ initial_world }
     {
         World {
             alloc,
@@ -71,7 +74,7 @@ impl<'n, A: Allocator + Copy> World<'n, A> {
     /// The events that were acknowledged to clients, in the order of their acknowledgement, each
     /// under the tag that its client sent.
     pub fn acknowledged(&self) -> &[Acknowledged<A>]
-        ensures { told_events result.now ≡ (world_of self.now).acknowledged }
+        ensures { told_events result.now ≡ self.now.shown.world.acknowledged }
     {
         self.book.acknowledged()
     }
@@ -79,7 +82,7 @@ impl<'n, A: Allocator + Copy> World<'n, A> {
     /// Whether the event is in a live chunk of some buffer or in a sink. It looks at each of them.
     pub fn held(&self, tag: &[u8], entry: &[u8]) -> bool
         ensures { IsTrue result
-            ↔ Held (world_of self.now) (record { tag = tag.now; entry = entry.now }) }
+            ↔ Held self.now.shown.world (record { tag = tag.now; entry = entry.now }) }
     {
         self.places.hold(tag, entry)
     }
@@ -88,8 +91,8 @@ impl<'n, A: Allocator + Copy> World<'n, A> {
     /// going through it again. It changes no answer. An `Err` leaves all to be gone through as
     /// before.
     pub fn collect(&mut self) -> Result<(), AllocError>
-        ensures net { net_of self.new ≡ net_of self.old }
-        ensures same { world_of self.new ≡ world_of self.old }
+        ensures net { self.new.net.now ≡ self.old.net.now }
+        ensures same { self.new.shown.world ≡ self.old.shown.world }
     {
         self.spots = self.places.spots()?;
         Ok(())
@@ -102,7 +105,7 @@ impl<'n, A: Allocator + Copy> World<'n, A> {
     /// where the event isn't there, it looks at all that is held.
     pub fn kept(&self, number: usize) -> Result<Option<bool>, AllocError>
         ensures { IfOk result
-            (λ answer. IsKeptAnswer (net_of self.now) (world_of self.now) number answer) }
+            (λ answer. IsKeptAnswer self.now.net.now self.now.shown.world number answer) }
     {
         self.kept_so(false, number)
     }
@@ -233,7 +236,7 @@ impl<'n, A: Allocator + Copy> World<'n, A> {
     /// It goes through all messages that were sent once for each that is found to be kept.
     pub fn kept_every(&self, number: usize) -> Result<Option<bool>, AllocError>
         ensures { IfOk result
-            (λ answer. IsKeptEveryAnswer (net_of self.now) (world_of self.now) number answer) }
+            (λ answer. IsKeptEveryAnswer self.now.net.now self.now.shown.world number answer) }
     {
         self.kept_so(true, number)
     }
@@ -262,7 +265,7 @@ impl<'n, A: Allocator + Copy> World<'n, A> {
     /// there is none.
     pub fn sink(&self, relay: u64, buffer: u64) -> &[Event<A>]
         ensures { stored_events result.now
-            ≡ sink_named (net_of self.now) (world_of self.now) relay buffer }
+            ≡ sink_named self.now.net.now self.now.shown.world relay buffer }
     {
         match self.net.place(relay) {
             Some(place) => self.places.sink(place, buffer as usize),
@@ -332,14 +335,14 @@ impl<'n, A: Allocator + Copy> World<'n, A> {
     /// moves, the way of the message, the buffers of a relay that starts again, and the serials
     /// that `oldest` passes, each once between restarts.
     pub fn step(&mut self, step: &Step<A>) -> Result<(), StepFault>
-        ensures net { net_of self.new ≡ net_of self.old }
+        ensures net { self.new.net.now ≡ self.old.net.now }
         ensures ok { OnOk result
-            ((rule_of_step (net_of self.old) (world_of self.old) step.now).names
-            × (rule_of_step (net_of self.old) (world_of self.old) step.now).allowed
-            × (world_of self.new
-            ≡ (rule_of_step (net_of self.old) (world_of self.old) step.now).after)) }
-        ensures refused { IfErr result (IsRefused (net_of self.old) (world_of self.old) step.now) }
-        ensures unchanged { OnErr result (world_of self.new ≡ world_of self.old) }
+            ((rule_of_step self.old.net.now self.old.shown.world step.now).names
+            × (rule_of_step self.old.net.now self.old.shown.world step.now).allowed
+            × (self.new.shown.world
+            ≡ (rule_of_step self.old.net.now self.old.shown.world step.now).after)) }
+        ensures refused { IfErr result (IsRefused self.old.net.now self.old.shown.world step.now) }
+        ensures unchanged { OnErr result (self.new.shown.world ≡ self.old.shown.world) }
     {
         self.take(step)
     }

@@ -3,7 +3,6 @@
 ghost use Rattle.std.specs.Prelude.{◌≡◌, ◌++◌, ◌↔◌, ℕ, Bool, List, string_bytes, IfOk, IfSome, IsTrue, OnOk, cond, count_by, flat_map, not, zip, ◌==◌, codes, decimal};
 ghost use Rattle.std.specs.List.{AllZip};
 ghost use Rattle.custody_core.specs.Custody.{IsKeptAs};
-ghost use Rattle.custody_steps.specs.WorldOf.{world_of, net_of};
 ghost use Rattle.custody_store.specs.Contents.{event_of};
 ghost use Rattle.loss_rules.specs.declared.answer.Answer.{Answer};
 ghost use Rattle.plan_answers.specs.Replays.{fate_line, IsCodeOf, IsWorldListing, IsReplayed, IsYesEarned};
@@ -102,8 +101,8 @@ fn list_world<A: Allocator + Copy>(
     steps: usize,
 ) -> Result<Said<A>, AllocError>
     ensures { IfOk result
-        (λ said. IsWorldListing duty (net_of world.now)
-        (world_of world.now) steps said.lines.items said.status) }
+        (λ said. IsWorldListing duty world.now.net.now
+        world.now.shown.world steps said.lines.items said.status) }
 {
     let mut said = list_fates(alloc, world, duty)?;
     let lost = said.lost;
@@ -153,9 +152,9 @@ fn list_fates<A: Allocator + Copy>(
 ) -> Result<Fates<A>, AllocError>
     ensures { IfOk result (λ listed. (held : List Bool)
         × AllZip (λ told is_held. IsTrue is_held
-        ↔ IsKeptAs duty (net_of world.now) (world_of world.now) told)
-        (world_of world.now).acknowledged held
-        × (listed.lines.items ≡ flat_map fate_line (zip (world_of world.now).acknowledged held))
+        ↔ IsKeptAs duty world.now.net.now world.now.shown.world told)
+        world.now.shown.world.acknowledged held
+        × (listed.lines.items ≡ flat_map fate_line (zip world.now.shown.world.acknowledged held))
         × (listed.lost ≡ count_by not held)) }
 {
     let mut lines = Vec::new(alloc);

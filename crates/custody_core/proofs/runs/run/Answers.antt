@@ -4,7 +4,6 @@ use Rattle.relay_net.specs.Network.{Network}
 use Rattle.custody_steps.specs.Rules.{Names, Allowed, effect}
 use Rattle.custody_steps.specs.Steps.{IsRefused, Steps}
 use Rattle.custody_steps.specs.World.{initial_world}
-use Rattle.custody_steps.specs.WorldOf.{world_of}
 use Rattle.custody_core.proofs.EveryBranch.{each_branch}
 use Rattle.custody_core.proofs.EveryNetwork.{nothing_lost}
 use Rattle.custody_core.proofs.HeldOnward.{held_onward}
@@ -20,7 +19,7 @@ returns-in-Err-clause-refused g c =
     let steps = c.args.steps.now in
     let place = c.loop-place.place in
     let step = c.index-steps-place.result in
-    let before = world_of c.loop-place.world in
+    let before = c.loop-place.world.shown.world in
     record {
       before = take place steps;
       refused = step;
@@ -38,8 +37,8 @@ loop-place-preserved g c =
     let steps = c.args.steps.now in
     let place = c.loop-place.place in
     let step = c.index-steps-place.result in
-    let before = world_of c.loop-place.world in
-    let after = world_of c.step.new.self in
+    let before = c.loop-place.world.shown.world in
+    let after = c.step.new.self.shown.world in
     let ok = subst (λ (net : Network _). Names net before step × Allowed net before step × (after ≡ effect net before step)) c.loop-place.invariant.0 c.in_default.ensures.ok in (
       c.step.ensures.net ∙ c.loop-place.invariant.0,
       rw (take_next steps place step c.loop-place-test.true c.index-steps-place.is, ok.2)

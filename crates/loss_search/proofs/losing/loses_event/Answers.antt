@@ -1,7 +1,6 @@
 use Rattle.std.proofs.Common.{◌≡◌, false, subst}
 use Rattle.std.specs.Prelude.{◌≢◌, IsTrue, ◌↔◌}
 use Rattle.std.proofs.lemmas.Result.{IfOk-weaker}
-use Rattle.custody_steps.specs.WorldOf.{net_of, world_of}
 use Rattle.custody_steps.specs.declared.fault.StepFault.TheVariants as fault
 use Rattle.relay_net.specs.Network.{Network}
 use Rattle.loss_search.specs.Losses.{HasLost, Loses}
@@ -12,9 +11,9 @@ pub returns-in-Ok : goal.returns-in-Ok
 returns-in-Ok g c =
     let net = c.args.net.now in
     let steps = c.args.steps.now in
-    let w = world_of c.in-Ok.world in
+    let w = c.in-Ok.world.shown.world in
     IfOk-weaker c.has_lost.result
-    (λ is_so. IsTrue is_so ↔ HasLost c.args.duty (net_of c.in-Ok.world) w)
+    (λ is_so. IsTrue is_so ↔ HasLost c.args.duty c.in-Ok.world.net.now w)
     (λ is_so. IsTrue is_so ↔ Loses c.args.duty net steps)
     (λ is_so lost. loses_where_lost c.args.duty net steps w is_so c.in-Ok.ensures.taken
     (subst (λ (n : Network _). IsTrue is_so ↔ HasLost c.args.duty n w) c.in-Ok.ensures.net lost))

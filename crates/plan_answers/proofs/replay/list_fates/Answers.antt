@@ -1,5 +1,4 @@
 use Rattle.std.proofs.Common.{◌≡◌, ◌≤◌, ◌+◌, ap, sym, ◌∙◌, cond, add-zero, arith}
-use Rattle.custody_steps.specs.WorldOf.{world_of, net_of}
 use Rattle.std.proofs.lemmas.List.{take_all}
 use Rattle.plan_answers.proofs.Fates.{listed_all, listed_more, held_event}
 use Rattle.plan_answers.proofs.replay.list_fates.Goals.{then-not-is_held, else-not-is_held}
@@ -7,8 +6,8 @@ use Rattle.plan_answers.proofs.replay.list_fates.Goals as goal
 
 pub loop-number-preserved : goal.loop-number-preserved
 loop-number-preserved g c =
-    let net = net_of c.args.world.now in
-    let w = world_of c.args.world.now in
+    let net = c.args.world.now.net.now in
+    let w = c.args.world.now.shown.world in
     let is_held = c.in_ok-is_held.is_held in
     let lost : c.if-not-is_held.lost ≡ c.loop-number.lost + cond is_held 0 1 = elim c.if-not-is_held.branch [
       | then-not-is_held w ↦ w.lost-is ∙ ap (λ b. c.loop-number.lost + cond b 0 1) (sym w.if-not-is_held.true)
@@ -26,5 +25,5 @@ loop-number-preserved g c =
 pub returns : goal.returns
 returns g c =
     let events = c.acknowledged-events.result.now in
-    listed_all c.args.duty (net_of c.args.world.now) (world_of c.args.world.now) events c.loop-number.number c.loop-number.lines.items c.loop-number.lost
+    listed_all c.args.duty c.args.world.now.net.now c.args.world.now.shown.world events c.loop-number.number c.loop-number.lines.items c.loop-number.lost
     c.acknowledged-events.ensures (take_all c.loop-number.number events c.loop-number-test.false) c.loop-number.invariant

@@ -1,7 +1,6 @@
 use Rattle.std.proofs.Common.{◌≡◌, ◌∙◌, ℕ, List, length, subst, sym}
 use Rattle.std.proofs.lemmas.Result.{IfOk-weaker}
 use Rattle.custody_steps.specs.Steps.{IsRefusedAt}
-use Rattle.custody_steps.specs.WorldOf.{world_of}
 use Rattle.relay_net.specs.Network.{Network}
 use Rattle.step_lines.specs.StepLines.{IsBadLine, SayAll}
 use Rattle.text_lines.specs.Lines.{text_lines}
@@ -26,7 +25,7 @@ pub returns-in-Ok-run : goal.returns-in-Ok-run
 returns-in-Ok-run g c =
     let plan = c.args.plan.now in
     let steps = c.deref.result.now in
-    let w = world_of c.in-Ok-run.world in
+    let w = c.in-Ok-run.world.shown.world in
     let ran = c.in-Ok-run.ensures in
     let run = subst (λ (n : Network _). IsRun n steps w) c.net.ensures.net (record { taken = ran.taken; made_up = ran.nothing_is_made_up; lost = ran.labelled_nothing_is_lost; each = ran.each_branch_keeps }) in
     let read = subst (SayAll (text_lines c.args.text.now)) (sym c.deref.ensures.value) c.in-Ok.ensures.steps in

@@ -27,7 +27,7 @@ pub invariant_of-self : goal.invariant_of-self
 invariant_of-self g c =
     let w = c.args.self.now in
     let k = keeping.known_delivery w.net.now w.places w.book c.end.new.self (keeping.known_of w) ended c.args.delivery w.book.room ended-same c.end.ensures in
-    record { answers = k.answers; closed = k.closed; sent = k.sent; ending = k.ending }
+    record { answers = k.answers; closed = k.closed; sent = k.sent; ending = k.ending; shown = k.shown }
 
 pub returns-clause-answer : goal.returns-clause-answer
 returns-clause-answer g c =

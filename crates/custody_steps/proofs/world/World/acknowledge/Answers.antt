@@ -67,7 +67,7 @@ pub invariant_of-self : goal.invariant_of-self
 invariant_of-self g c =
     let a = c.answer.new.self in
     let k = keeping.known_delivery a.net.now a.places a.book c.end.new.self (keeping.known_of a) ended c.args.delivery a.book.room ended-same c.end.ensures in
-    record { answers = k.answers; closed = k.closed; sent = k.sent; ending = k.ending }
+    record { answers = k.answers; closed = k.closed; sent = k.sent; ending = k.ending; shown = k.shown }
 
 pub returns-clause-answer : goal.returns-clause-answer
 returns-clause-answer g c =

@@ -14,4 +14,4 @@ invariant_of-self g c =
     (λ e. keeping.known_client w.net.now w.places w.book c.answer.new.self known c.args.message m.0 c.in-Client.number m.1 (m.2 ∙ c.in-Client.is)
     (w.book.acknowledged ++ option_map_or events_told (slice_get w.book.messages c.args.message) []) e)
     (λ e. keeping.known_again w.net.now w.places w.book c.answer.new.self known e) in
-    record { answers = k.answers; closed = k.closed; sent = k.sent; ending = k.ending }
+    record { answers = k.answers; closed = k.closed; sent = k.sent; ending = k.ending; shown = k.shown }

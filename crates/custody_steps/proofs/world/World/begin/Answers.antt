@@ -5,7 +5,8 @@ use Rattle.std.proofs.lemmas.Result.{err_from_is_err_and}
 use Rattle.custody_store.specs.Book.{Delivery}
 use Rattle.relay_net.specs.Ways.{HasLoop}
 use Rattle.custody_steps.specs.Steps.{tag_of}
-use Rattle.custody_steps.specs.WorldOf.{world_from, world_of}
+use Rattle.custody_steps.specs.WorldFrom.{world_from}
+use Rattle.custody_steps.specs.WorldOf.{world_of}
 use Rattle.custody_steps.proofs.Keeping as keeping
 use Rattle.custody_steps.proofs.Sendings.{none_begins, nowhere, no_room, too_long, loops}
 use Rattle.custody_steps.proofs.world.World.begin.Goals as goal
@@ -26,7 +27,7 @@ invariant_of-self g c =
     (λ e. keeping.known_opened w.net.now w.places w.book c.begin.new.self known d (w.book.room ++ 0 ∷ []) (slice_get_within w.book.messages c.args.message m at)
     (keeping.ends_of w.net.now w.book.messages c.args.message m c.in-Some-entrance.at c.in-Ok.tag at no) e)
     (λ e. keeping.known_again w.net.now w.places w.book c.begin.new.self known e) in
-    record { answers = k.answers; closed = k.closed; sent = k.sent; ending = k.ending }
+    record { answers = k.answers; closed = k.closed; sent = k.sent; ending = k.ending; shown = k.shown }
 
 pub returns-in_err-begin-clause-answer : goal.returns-in_err-begin-clause-answer
 returns-in_err-begin-clause-answer g c =

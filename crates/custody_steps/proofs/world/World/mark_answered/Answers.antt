@@ -14,7 +14,7 @@ invariant_of-self g c =
     let w = c.args.self.now in
     let m = some_and (slice_get w.book.messages c.args.message) (λ (m : Message). m.sender ≡ c.args.sender) c.requires in
     let k = keeping.known_client w.net.now w.places w.book c.answer_outside.new.self (keeping.known_of w) c.args.message m.0 c.in_default.field-0 m.1 (m.2 ∙ c.in_default.is) w.book.acknowledged c.answer_outside.ensures in
-    record { answers = k.answers; closed = k.closed; sent = k.sent; ending = k.ending }
+    record { answers = k.answers; closed = k.closed; sent = k.sent; ending = k.ending; shown = k.shown }
 
 pub returns-in_err-answer-clause-err : goal.returns-in_err-answer-clause-err
 returns-in_err-answer-clause-err g c =
@@ -37,7 +37,7 @@ invariant_of-self-2 g c =
     let made = keeping.known_same w.net.now w.places c.make.new.self w.book (keeping.known_of w) c.make.ensures.same in
     let k = keeping.known_chunk w.net.now c.make.new.self c.answer.new.self w.book made t.place t.buffer t.serial c.answer.ensures.others c.in_ok-answer.ensures.ok
     c.args.message m.0 m.1 (m.2 ∙ c.in-Chunk.is) w.book.acknowledged c.answer_outside-2.new.self c.answer_outside-2.ensures in
-    record { answers = k.answers; closed = k.closed; sent = k.sent; ending = k.ending }
+    record { answers = k.answers; closed = k.closed; sent = k.sent; ending = k.ending; shown = k.shown }
 
 pub returns-clause-ok : goal.returns-clause-ok
 returns-clause-ok g c =

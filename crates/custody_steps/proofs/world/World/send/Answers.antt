@@ -7,7 +7,8 @@ use Rattle.custody_store.specs.Book.{Message}
 use Rattle.custody_store.specs.declared.sender.Sender.TheVariants as sender
 use Rattle.relay_net.specs.Network.{address_of_client}
 use Rattle.step_lines.specs.Texts.{texts_of}
-use Rattle.custody_steps.specs.WorldOf.{world_from, world_of}
+use Rattle.custody_steps.specs.WorldFrom.{world_from}
+use Rattle.custody_steps.specs.WorldOf.{world_of}
 use Rattle.custody_steps.proofs.Keeping as keeping
 use Rattle.custody_steps.proofs.Sendings.{none_shown}
 use Rattle.custody_steps.proofs.world.World.send.Goals as goal
@@ -20,7 +21,7 @@ invariant_of-self g c =
     let k = keeping.either c.send.result c.send.ensures.ok c.send.ensures.err
     (λ e. keeping.known_sent w.net.now w.places w.book c.send.new.self known m refl e)
     (λ e. keeping.known_again w.net.now w.places w.book c.send.new.self known e) in
-    record { answers = k.answers; closed = k.closed; sent = k.sent; ending = k.ending }
+    record { answers = k.answers; closed = k.closed; sent = k.sent; ending = k.ending; shown = k.shown }
 
 pub returns-in_err-send-clause-answer : goal.returns-in_err-send-clause-answer
 returns-in_err-send-clause-answer g c =

@@ -17,7 +17,7 @@ pub invariant_of-self : goal.invariant_of-self
 invariant_of-self g c =
     let w = c.args.self.now in
     let k = keeping.known_again w.net.now w.places w.book c.send.new.self (keeping.known_of w) c.in_err-send.ensures.err in
-    record { answers = k.answers; closed = k.closed; sent = k.sent; ending = k.ending }
+    record { answers = k.answers; closed = k.closed; sent = k.sent; ending = k.ending; shown = k.shown }
 
 pub mark_forwarded-requires-clause-there : goal.mark_forwarded-requires-clause-there
 mark_forwarded-requires-clause-there g c =
@@ -31,7 +31,7 @@ invariant_of-self-2 g c =
     let m : Message = record { sender = sender.Chunk f.place f.buffer f.serial; address = c.args.address; tag = c.in-Some.copied.tag; entries = texts_of c.as_slice.result.now; acknowledged = false } in
     let sent = keeping.known_sent w.net.now w.places w.book c.send.new.self (keeping.known_of w) m refl c.in_ok-send.ensures.ok in
     let k = keeping.known_changed w.net.now w.places c.mark_forwarded.new.self c.send.new.self sent f.place f.buffer _ c.mark_forwarded.ensures refl in
-    record { answers = k.answers; closed = k.closed; sent = k.sent; ending = k.ending }
+    record { answers = k.answers; closed = k.closed; sent = k.sent; ending = k.ending; shown = k.shown }
 
 pub returns-clause-ok : goal.returns-clause-ok
 returns-clause-ok g c =

@@ -14,4 +14,4 @@ invariant_of-self g c =
     let k = keeping.either c.restage.result c.restage.ensures.ok c.restage.ensures.err
     (λ e. keeping.known_changed w.net.now w.places c.restage.new.self w.book known c.args.found.place c.args.found.buffer _ e refl)
     (λ e. keeping.known_same w.net.now w.places c.restage.new.self w.book known e) in
-    record { answers = k.answers; closed = k.closed; sent = k.sent; ending = k.ending }
+    record { answers = k.answers; closed = k.closed; sent = k.sent; ending = k.ending; shown = k.shown }

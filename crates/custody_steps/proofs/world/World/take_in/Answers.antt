@@ -2,7 +2,8 @@ use Rattle.std.proofs.Common.{refl, ap, ◌∙◌, arith}
 use Rattle.std.proofs.lemmas.Option.{slice_get_within}
 use Rattle.custody_store.specs.Book.{Book, Message, Delivery, changed_at, appended_to_buffer, with_room, less_room}
 use Rattle.custody_steps.specs.Steps.{CanAppend, with_appended}
-use Rattle.custody_steps.specs.WorldOf.{world_of, world_from}
+use Rattle.custody_steps.specs.WorldFrom.{world_from}
+use Rattle.custody_steps.specs.WorldOf.{world_of}
 use Rattle.custody_steps.proofs.Delivered.{appended-same}
 use Rattle.custody_steps.proofs.Deliveries.{length-from}
 use Rattle.custody_steps.proofs.Keeping as keeping
@@ -23,7 +24,7 @@ pub invariant_of-self : goal.invariant_of-self
 invariant_of-self g c =
     let w = c.args.self.now in
     let k = keeping.known_again w.net.now w.places w.book c.make_room.new.self (keeping.known_of w) c.in_err-make_room.ensures.err in
-    record { answers = k.answers; closed = k.closed; sent = k.sent; ending = k.ending }
+    record { answers = k.answers; closed = k.closed; sent = k.sent; ending = k.ending; shown = k.shown }
 
 pub invariant_of-self-in_default : goal.invariant_of-self-in_default
 invariant_of-self-in_default g c =
@@ -56,7 +57,7 @@ invariant_of-self-in-Break-branch-2 g c =
     let w = c.args.self.now in
     let roomy = keeping.known_room w.net.now w.places w.book c.make_room.new.self (keeping.known_of w) (changed_at w.book.room c.args.number with_room) c.in_ok-make_room.ensures.ok in
     let k = keeping.known_same w.net.now w.places c.make.new.self c.make_room.new.self roomy c.make.ensures.same in
-    record { answers = k.answers; closed = k.closed; sent = k.sent; ending = k.ending }
+    record { answers = k.answers; closed = k.closed; sent = k.sent; ending = k.ending; shown = k.shown }
 
 pub returns-in_err-make-clause-err : goal.returns-in_err-make-clause-err
 returns-in_err-make-clause-err g c =
@@ -80,7 +81,7 @@ invariant_of-self-in-Break-branch-3 g c =
     let roomy = keeping.known_room w.net.now w.places w.book c.make_room.new.self (keeping.known_of w) (changed_at w.book.room c.args.number with_room) c.in_ok-make_room.ensures.ok in
     let made = keeping.known_same w.net.now w.places c.make.new.self c.make_room.new.self roomy c.make.ensures.same in
     let k = keeping.known_same w.net.now c.make.new.self c.take_in.new.self c.make_room.new.self made c.in_err-take_in.ensures.err in
-    record { answers = k.answers; closed = k.closed; sent = k.sent; ending = k.ending }
+    record { answers = k.answers; closed = k.closed; sent = k.sent; ending = k.ending; shown = k.shown }
 
 pub returns-in_err-take_in-clause-err : goal.returns-in_err-take_in-clause-err
 returns-in_err-take_in-clause-err g c =
@@ -98,7 +99,7 @@ invariant_of-self-2 g c =
     let made = keeping.known_same w.net.now w.places c.make.new.self book roomy c.make.ensures.same in
     let taken = keeping.known_changed w.net.now c.make.new.self c.take_in.new.self book made c.entrance-place.result.relay c.args.buffer _ c.in_ok-take_in.ensures.ok refl in
     let k = keeping.known_delivery w.net.now c.take_in.new.self book c.mark_appended.new.self taken (appended_to_buffer c.args.buffer) c.args.number (changed_at book.room c.args.number less_room) (appended-same c.args.buffer) c.mark_appended.ensures in
-    record { answers = k.answers; closed = k.closed; sent = k.sent; ending = k.ending }
+    record { answers = k.answers; closed = k.closed; sent = k.sent; ending = k.ending; shown = k.shown }
 
 pub returns-clause-ok : goal.returns-clause-ok
 returns-clause-ok g c =
