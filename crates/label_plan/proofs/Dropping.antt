@@ -1,5 +1,5 @@
 -- One more match is let go.
-use Rattle.std.proofs.Common.{◌≡◌, inl, inr, ℕ, zero, suc, [], ◌∷◌, slice_get, option_map, Option, Some, None, refl, sym, ap, subst, ◌∙◌}
+use Rattle.std.proofs.Common.{◌≡◌, inl, inr, ℕ, zero, suc, [], ◌∷◌, slice_get, option_map, Some, refl, sym, ap, subst, ◌∙◌}
 use Rattle.std.specs.Option.{option_and_then}
 use Rattle.std.proofs.lemmas.Option.{same_Some}
 use Rattle.relay_conf.specs.Buffers.{buffer_number, output_in_relay}
@@ -115,19 +115,16 @@ module _ {A : Type 0} (mid after : Subject A) (name : DropName) (h : LetsOneGo m
 
   -- buffers stay distinct
   pub distinct_still : BuffersAreDistinct mid.net → BuffersAreDistinct after.net
-  distinct_still distinct place relay is s r o found there t q u other at buffer e f =
-      let first : output_in_rule after.net place s r o ≡ Some found = outputs_of_relay after.net place s r o relay is ∙ there in
-      let second : output_in_rule after.net place t q u ≡ Some other = outputs_of_relay after.net place t q u relay is ∙ at in
-      elim (same_site_or_not h.at.place h.at.scope h.at.rule place s r) [
-        | inl site ↦ elim (same_site_or_not h.at.place h.at.scope h.at.rule place t q) [
-          | inl again ↦ (again.1 ∙ sym site.1, again.2 ∙ sym site.2, (one_there place t q u other again second).0 ∙ sym (one_there place s r o found site first).0)
-          | inr apart ↦ absurd (clashing place t q u s r o other found apart site second first buffer f e)
-        ]
-        | inr apart ↦ elim (same_site_or_not h.at.place h.at.scope h.at.rule place t q) [
-          | inl site ↦ absurd (clashing place s r o t q u found other apart site first second buffer e f)
-          | inr other_site ↦ both place s r o t q u found other apart other_site first second buffer e f
-        ]
-      ]
+  distinct_still distinct place s r o t q u buffer found other first second e f = elim (same_site_or_not h.at.place h.at.scope h.at.rule place s r) [
+    | inl site ↦ elim (same_site_or_not h.at.place h.at.scope h.at.rule place t q) [
+      | inl again ↦ (again.1 ∙ sym site.1, again.2 ∙ sym site.2, (one_there place t q u other again second).0 ∙ sym (one_there place s r o found site first).0)
+      | inr apart ↦ absurd (clashing place t q u s r o other found apart site second first buffer f e)
+    ]
+    | inr apart ↦ elim (same_site_or_not h.at.place h.at.scope h.at.rule place t q) [
+      | inl site ↦ absurd (clashing place s r o t q u found other apart site first second buffer e f)
+      | inr other_site ↦ both place s r o t q u found other apart other_site first second buffer e f
+    ]
+  ]
     where
       clashing : (place s r o t q u : ℕ) (found other : Output A) → ¬ IsSite place s r → IsSite place t q → output_in_rule after.net place s r o ≡ Some found → output_in_rule after.net place t q u ≡ Some other
           → (buffer : ℕ) → buffer_number found ≡ Some buffer → buffer_number other ≡ Some buffer → ⊥
@@ -137,17 +134,8 @@ module _ {A : Type 0} (mid after : Subject A) (name : DropName) (h : LetsOneGo m
 
       both : (place s r o t q u : ℕ) (found other : Output A) → ¬ IsSite place s r → ¬ IsSite place t q → output_in_rule after.net place s r o ≡ Some found → output_in_rule after.net place t q u ≡ Some other
           → (buffer : ℕ) → buffer_number found ≡ Some buffer → buffer_number other ≡ Some buffer → (t ≡ s) × (q ≡ r) × (u ≡ o)
-      both place s r o t q u found other apart other_site first second buffer e f = by (relay_at mid.net place) refl
-        where
-          was_first : output_in_rule mid.net place s r o ≡ Some found
-          was_first = sym (output_elsewhere place s r o apart) ∙ first
-
-          was_second : output_in_rule mid.net place t q u ≡ Some other
-          was_second = sym (output_elsewhere place t q u other_site) ∙ second
-
-          by : (m : Option (Relay A)) → relay_at mid.net place ≡ m → (t ≡ s) × (q ≡ r) × (u ≡ o)
-          by None is = let none : output_in_rule mid.net place s r o ≡ None = rw is refl in let clash : Some found ≡ None = sym was_first ∙ none in absurd (cc)
-          by (Some before) is = distinct place before is s r o found (sym (outputs_of_relay mid.net place s r o before is) ∙ was_first) t q u other (sym (outputs_of_relay mid.net place t q u before is) ∙ was_second) buffer e f
+      both place s r o t q u found other apart other_site first second buffer e f =
+          distinct place s r o t q u buffer found other (sym (output_elsewhere place s r o apart) ∙ first) (sym (output_elsewhere place t q u other_site) ∙ second) e f
 
   -- paths stay distinct
   pub paths_still : PathsAreDistinct mid.net → PathsAreDistinct after.net

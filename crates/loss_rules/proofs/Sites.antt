@@ -104,12 +104,6 @@ some-found None scope rule output found buffer e h = absurd (cc)
 some-found (Some relay) scope rule output found buffer e h =
     find-some (has buffer) (outputs_of relay) found (within-contains relay scope rule output found e) (is-numbered (buffer_number found) buffer h)
 
--- where a relay's outputs have buffers of their own, two with one buffer stand at one place
-own-place : {A : Type 0} (relay : Option (Relay A)) → ((r : Relay A) → relay ≡ Some r → HaveOwnBuffers r) → (scope rule output : ℕ) (found : Output A) → output_within relay scope rule output ≡ Some found
-    → (s r o : ℕ) (other : Output A) → output_within relay s r o ≡ Some other → (buffer : ℕ) → buffer_number found ≡ Some buffer → buffer_number other ≡ Some buffer → (s ≡ scope) × (r ≡ rule) × (o ≡ output)
-own-place None own scope rule output found e s r o other there buffer h k = absurd (cc)
-own-place (Some relay) own scope rule output found e s r o other there buffer h k = own relay refl scope rule output found e s r o other there buffer h k
-
 -- where each buffer belongs to one output, the output that stands there is the one that is found
 -- for its buffer
 pub output-found : {A : Type 0} (net : Network A) → BuffersAreDistinct net → (place scope rule output : ℕ) (found : Output A) (buffer : ℕ) → output_in_rule net place scope rule output ≡ Some found → buffer_number found ≡ Some buffer
@@ -117,9 +111,17 @@ pub output-found : {A : Type 0} (net : Network A) → BuffersAreDistinct net →
 output-found {A} net distinct place scope rule output found buffer e h =
     let other = some-found (relay_at net place) scope rule output found buffer e h in
     let site = site-of (relay_at net place) other.0 buffer other.1 in
-    let same = own-place (relay_at net place) (distinct place) scope rule output found e site.scope site.rule site.output other.0 site.there buffer h site.number in
+    let same = distinct place scope rule output site.scope site.rule site.output buffer found other.0 e site.there h site.number in
     let moved : output_in_rule net place site.scope site.rule site.output ≡ output_in_rule net place scope rule output = λ i. output_in_rule net place (same.0 i) (same.1 i) (same.2 i) in
     other.1 ∙ (sym site.there ∙ (moved ∙ e))
+
+-- where each relay's outputs have buffers of their own, buffers are distinct
+pub own-distinct : {A : Type 0} (net : Network A) → ((place : ℕ) (relay : Relay A) → relay_at net place ≡ Some relay → HaveOwnBuffers relay) → BuffersAreDistinct net
+own-distinct {A} net own place scope rule output s r o buffer found other e there h k = by (relay_at net place) (own place) e there
+  where
+    by : (relay : Option (Relay A)) → ((r : Relay A) → relay ≡ Some r → HaveOwnBuffers r) → output_within relay scope rule output ≡ Some found → output_within relay s r o ≡ Some other → (s ≡ scope) × (r ≡ rule) × (o ≡ output)
+    by None own e there = absurd (cc)
+    by (Some relay) own e there = own relay refl scope rule output found e s r o other there buffer h k
 
 -- ---- scopes
 

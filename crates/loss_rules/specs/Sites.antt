@@ -5,9 +5,8 @@ use Rattle.relay_conf.specs.declared.output.Output.{Output}
 use Rattle.relay_conf.specs.declared.output.Output.TheVariants as output
 use Rattle.relay_conf.specs.declared.output.Server.{Server}
 use Rattle.relay_conf.specs.declared.relay.MatchRule.{MatchRule}
-use Rattle.relay_conf.specs.declared.relay.Relay.{Relay}
 use Rattle.relay_net.specs.Network.{Network, relay_at}
-use Rattle.relay_conf.specs.Buffers.{HaveOwnBuffers}
+use Rattle.relay_conf.specs.Buffers.{buffer_number}
 use Rattle.relay_net.specs.Outputs.{servers_of}
 
 -- the match with this place in this scope of the relay at this place, each counted from 0
@@ -58,7 +57,10 @@ abbrev pub RelabelsTo : {A : Type 0} → Output A → ℕ → Type 0
 RelabelsTo (output.Relabel target line) scope = target.0 ≡ scope
 RelabelsTo _ scope = ⊥
 
--- Each relay's outputs have buffers of their own.
+-- In no relay two outputs share a buffer: where two have one number, they stand at one place.
 abbrev pub BuffersAreDistinct : {A : Type 0} → Network A → Type 0
-BuffersAreDistinct {A} net = (place : ℕ) (relay : Relay A) → relay_at net place ≡ Some relay
-    → HaveOwnBuffers relay
+BuffersAreDistinct {A} net = (place scope rule output s r o buffer : ℕ) (found other : Output A)
+    → output_in_rule net place scope rule output ≡ Some found
+    → output_in_rule net place s r o ≡ Some other
+    → buffer_number found ≡ Some buffer → buffer_number other ≡ Some buffer
+    → (s ≡ scope) × (r ≡ rule) × (o ≡ output)

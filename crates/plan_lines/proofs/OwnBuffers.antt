@@ -5,8 +5,10 @@ use Rattle.std.proofs.lemmas.List.Elements.{All-push, All-nil}
 use Rattle.std.proofs.lemmas.Option.{same_Some, slice_get_within, get_or_from_slice_get}
 use Rattle.loss_rules.specs.Breaks.{Subject}
 use Rattle.loss_rules.specs.Sites.{BuffersAreDistinct}
+use Rattle.loss_rules.proofs.Sites.{own-distinct}
 use Rattle.relay_conf.specs.Buffers.{HaveOwnBuffers}
 use Rattle.relay_conf.proofs.OwnBuffers.{own_buffers}
+use Rattle.relay_conf.specs.declared.relay.Relay.{Relay}
 use Rattle.relay_net.specs.Network.{Network}
 use Rattle.relay_net.specs.declared.node.Node.{Node}
 use Rattle.plan_lines.specs.Forms.{nothing, a_relay, a_client, a_label, a_reach, a_duty, no_form, line_form}
@@ -26,11 +28,11 @@ at_place nodes place node own at =
 
 -- so have the network's
 distinct : {A : Type 0} (net : Network A) → HaveOwn net.relays → BuffersAreDistinct net
-distinct {A} net own place relay is = by (slice_get net.relays place) refl is
+distinct {A} net own = own-distinct net (λ place relay is. by place relay (slice_get net.relays place) refl is)
   where
-    by : (node : Option (Node A)) → slice_get net.relays place ≡ node → option_map (λ n. n.relay) node ≡ Some relay → HaveOwnBuffers relay
-    by None at is = absurd (cc)
-    by (Some node) at is = subst HaveOwnBuffers (same_Some node.relay relay is) (at_place net.relays place node own at)
+    by : (place : ℕ) (relay : Relay A) (node : Option (Node A)) → slice_get net.relays place ≡ node → option_map (λ n. n.relay) node ≡ Some relay → HaveOwnBuffers relay
+    by place relay None at is = absurd (cc)
+    by place relay (Some node) at is = subst HaveOwnBuffers (same_Some node.relay relay is) (at_place net.relays place node own at)
 
 own_buffers_kept : {A : Type 0} → Kept A HasOwnBuffers
 own_buffers_kept confs line nothing before after h e = subst HasOwnBuffers (sym h) e
