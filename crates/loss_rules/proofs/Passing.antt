@@ -56,8 +56,8 @@ label-pattern net labels reaches matched covered place scope tag (k, label, less
     record {
       pattern = p;
       has = h;
-      matched = subst₂ (λ a b. IsMatched net a b p) of.place_is of.scope_is (All-contains (IsMatched net label.place label.scope) label.patterns.items p all_matched (i, within, here));
-      covered = subst₂ (λ a b. ReachesCoverLabel net reaches a b p) of.place_is of.scope_is (All-contains (ReachesCoverLabel net reaches label.place label.scope) label.patterns.items p all_covered (i, within, here));
+      matched = subst₂ (λ a b. IsMatched net a b p) of.0 of.1 (All-contains (IsMatched net label.place label.scope) label.patterns.items p all_matched (i, within, here));
+      covered = subst₂ (λ a b. ReachesCoverLabel net reaches a b p) of.0 of.1 (All-contains (ReachesCoverLabel net reaches label.place label.scope) label.patterns.items p all_covered (i, within, here));
     }
 
 -- an event with the label's tag is taken by some match

@@ -8,15 +8,13 @@ use Rattle.loss_rules.specs.declared.label.Label.{Label}
 use Rattle.loss_rules.specs.declared.label.Reach.{Reach}
 
 -- The label is of this scope of the relay at this place.
-pub record IsLabelOf {A : Type 0} (place scope : ℕ) (label : Label A) : Type 0 where
-  pub place_is : label.place ≡ place
-  pub scope_is : label.scope ≡ scope
+abbrev pub IsLabelOf : {A : Type 0} → ℕ → ℕ → Label A → Type 0
+IsLabelOf place scope label = (label.place ≡ place) × (label.scope ≡ scope)
 
 -- The reach is of this match of that scope.
-pub record IsReachOf {A : Type 0} (place scope rule : ℕ) (reach : Reach A) : Type 0 where
-  pub place_is : reach.place ≡ place
-  pub scope_is : reach.scope ≡ scope
-  pub rule_is : reach.rule ≡ rule
+abbrev pub IsReachOf : {A : Type 0} → ℕ → ℕ → ℕ → Reach A → Type 0
+IsReachOf place scope rule reach = (reach.place ≡ place) × (reach.scope ≡ scope)
+    × (reach.rule ≡ rule)
 
 -- The pattern fits a pattern of a label of this scope.
 abbrev pub FitsLabel : {A : Type 0} → List (Label A) → ℕ → ℕ → List Item → Type 0
