@@ -14,13 +14,14 @@ use Rattle.relay_net.specs.declared.address.Entrance.{Entrance}
 use Rattle.relay_net.specs.declared.node.Client.{Client}
 use Rattle.route_graph.specs.Ways.{HaveTag, IsLeaf}
 use Rattle.loss_rules.specs.Labels.{FitsLabelWith, IsLabelledTag}
-use Rattle.loss_rules.specs.Rules.{AreKeepingRulesKept, IsLabelledClient}
+use Rattle.loss_rules.specs.Rules.{IsLabelledClient}
 use Rattle.loss_rules.specs.Sites.{BuffersAreDistinct}
 use Rattle.loss_rules.specs.declared.label.Label.{Label}
 use Rattle.loss_rules.specs.declared.label.Reach.{Reach}
 use Rattle.loss_rules.proofs.Passing.{entered-tag}
+use Rattle.loss_rules.proofs.Keeping.{KeepingRules}
 use Rattle.loss_rules.proofs.Sites.{site-of}
-use Rattle.loss_rules.specs.SafeWays.{LabelledTagsAreSafe}
+use Rattle.loss_rules.proofs.Ways.{labelled_safe}
 use Rattle.custody_store.proofs.Lists.{some_and}
 use Rattle.custody_store.proofs.Members.{get-contains}
 use Rattle.custody_core.proofs.Serials.{and_some}
@@ -32,7 +33,7 @@ fits_labelled labels place scope prefix pattern tag has fits =
     let one = fits.4.1 in
     (fits.0, fits.1, fits.2, fits.3, (fits.4.0, (one.0, one.1, one.2, one.3, subset one.4 (parts_of (entered_tag prefix tag)) (entered-tag prefix pattern tag has))))
 
-module _ {A : Type 0} (net : Network A) (labels : List (Label A)) (reaches : List (Reach A)) (safe : LabelledTagsAreSafe A) (distinct : BuffersAreDistinct net) (rules : AreKeepingRulesKept net labels reaches) where
+module _ {A : Type 0} (net : Network A) (labels : List (Label A)) (reaches : List (Reach A)) (distinct : BuffersAreDistinct net) (rules : KeepingRules net labels reaches) where
   -- the tags of the labels
   abbrev pub labelled : Labelling
   labelled = λ at tag. IsLabelledTag labels at.relay at.scope tag
@@ -57,13 +58,13 @@ module _ {A : Type 0} (net : Network A) (labels : List (Label A)) (reaches : Lis
       let site = site-of (relay_at net at.relay) o buffer output in
       let enter = there (entrance net (address_of_server server)) (rules.servers at.relay site.scope site.rule site.output o site.there server inside) in
       and_some (entrance net (address_of_server server)) (λ to. labelled to (tag_at net (address_of_server server) tag)) enter.0 enter.1
-      ((safe net labels reaches distinct rules at.relay at.scope tag is).onward buffer leaf o server enter.0 output inside enter.1)
+      ((labelled_safe net labels reaches distinct rules at.relay at.scope tag is).onward buffer leaf o server enter.0 output inside enter.1)
 
   -- labelled tags lead on
   pub lead_on : LeadOn net labelled
   lead_on = record {
     clients = clients_lead;
-    ends = λ at tag is. (safe net labels reaches distinct rules at.relay at.scope tag is).no_loop;
-    keeps = λ at tag is. (let way = safe net labels reaches distinct rules at.relay at.scope tag is in (way.buffer, way.leaf, way.keeps));
+    ends = λ at tag is. (labelled_safe net labels reaches distinct rules at.relay at.scope tag is).no_loop;
+    keeps = λ at tag is. (let way = labelled_safe net labels reaches distinct rules at.relay at.scope tag is in (way.buffer, way.leaf, way.keeps));
     sends = servers_lead;
   }

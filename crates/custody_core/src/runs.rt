@@ -1,14 +1,13 @@
 //! Lists of steps, taken one after another, and the headline: what holds after each list.
 
-ghost use Rattle.std.specs.Prelude.{◌≡◌, List, IfOk, IfErr};
+ghost use Rattle.std.specs.Prelude.{◌≡◌, IfOk, IfErr};
 ghost use Rattle.custody_core.specs.Custody.{EachBranchKeeps, NothingIsLost, NothingIsMadeUp};
 ghost use Rattle.custody_core.specs.Onward.{AreHeldOnward};
 ghost use Rattle.custody_steps.specs.Steps.{Steps, IsRefusedAt};
 ghost use Rattle.custody_steps.specs.World.{initial_world};
-ghost use Rattle.loss_rules.specs.Rules.{AreKeepingRulesKept, EachOutputKeeps};
+ghost use Rattle.loss_rules.specs.Breaks.{Subject, AreKeepingRulesKept};
 ghost use Rattle.loss_rules.specs.Sites.{BuffersAreDistinct};
-ghost use Rattle.loss_rules.specs.declared.label.Label.{Label};
-ghost use Rattle.loss_rules.specs.declared.label.Reach.{Reach};
+ghost use Rattle.loss_rules.specs.declared.label.Duty.TheVariants.{Every};
 
 use custody_steps::{StepFault, World};
 use relay_net::Net;
@@ -36,15 +35,14 @@ pub fn run<'n, A: Allocator + Copy>(
     ensures net { IfOk result (λ w. w.net.now ≡ net.now) }
     ensures taken { IfOk result (λ w. Steps net.now initial_world steps.now w.shown.world) }
     ensures refused { IfErr result (λ e. IsRefusedAt net.now steps.now e.0 e.1) }
-    ensures labelled_nothing_is_lost { (labels : List (Label A)) (reaches : List (Reach A))
-        → BuffersAreDistinct net.now → AreKeepingRulesKept net.now labels reaches
+    ensures labelled_nothing_is_lost { (s : Subject A) → s.net ≡ net.now
+        → BuffersAreDistinct net.now → AreKeepingRulesKept s
         → IfOk result (λ w. NothingIsLost net.now w.shown.world) }
-    ensures held_onward { (labels : List (Label A)) (reaches : List (Reach A))
-        → BuffersAreDistinct net.now → AreKeepingRulesKept net.now labels reaches
+    ensures held_onward { (s : Subject A) → s.net ≡ net.now
+        → BuffersAreDistinct net.now → AreKeepingRulesKept s
         → IfOk result (λ w. AreHeldOnward net.now steps.now w.shown.world) }
-    ensures each_branch_keeps { (labels : List (Label A)) (reaches : List (Reach A))
-        → BuffersAreDistinct net.now → AreKeepingRulesKept net.now labels reaches
-        → EachOutputKeeps net.now reaches
+    ensures each_branch_keeps { (s : Subject A) → s.net ≡ net.now
+        → BuffersAreDistinct net.now → AreKeepingRulesKept s → s.duty ≡ Every
         → IfOk result (λ w. EachBranchKeeps net.now w.shown.world) }
     ensures nothing_is_made_up { IfOk result (λ w. NothingIsMadeUp net.now w.shown.world) }
 {

@@ -14,7 +14,7 @@ use Rattle.route_graph.specs.Table.{Rule, hop_of, rule_of}
 use Rattle.route_graph.specs.Ways.{IsHandedTo, IsRelabelled, IsLeaf, own, further, IsLoop, rules_at}
 use Rattle.route_graph.specs.declared.hop.Hop.{Hop}
 use Rattle.route_graph.proofs.Takers.{taker-unique}
-use Rattle.loss_rules.specs.Rules.{DoesDuty, KeepsOrRelabels, AllKeepOrRelabel}
+use Rattle.loss_rules.specs.Rules.{DoesDuty, KeepsOrRelabels}
 use Rattle.loss_rules.specs.SafeWays.{IsFirstTaker}
 use Rattle.loss_rules.specs.Sites.{rule_at, output_in_rule, BuffersAreDistinct, RelabelsTo}
 use Rattle.loss_rules.specs.declared.label.Duty.{Duty}
@@ -103,14 +103,14 @@ does_duty {A} net place scope rule e found is asked = by asked
     does : Does e.sink
     does = inl (sink_keeps e.found.line e.sink e.keeps)
 
-    one : KeepsOrRelabels found
+    one : Any KeepsOrRelabels found.outputs.items
     one = subst (λ l. Any Does l) (sym outputs) (0, e.sink, omega arith, refl, does)
 
     each_one : (k : ℕ) (d : Output A) → k < length (e.sink ∷ []) → Does (get_or (e.sink ∷ []) k d)
     each_one zero d less = does
     each_one (suc k) d less = absurd (omega (arith, less))
 
-    all : AllKeepOrRelabel found
+    all : All KeepsOrRelabels found.outputs.items
     all = subst (λ l. All Does l) (sym outputs) each_one
 
     by : (asked : Duty) → DoesDuty asked found

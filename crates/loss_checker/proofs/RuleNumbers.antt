@@ -3,15 +3,9 @@ use Rattle.std.proofs.Common.{◌≡◌, ◌<◌, ◌+◌, ℕ, List, sym, subst
 use Rattle.std.specs.Prelude.{◌⊎◌}
 use Rattle.std.proofs.Common.{inl, inr}
 use Rattle.std.proofs.lemmas.Bool.{cases_lt}
-use Rattle.loss_rules.specs.Breaks.{Subject, IsKept, IsAnswer, rule_number}
-use Rattle.loss_rules.specs.Rules.{AreKeepingRulesKept, KeepsOrRelabels, AllKeepOrRelabel, DoesDuty, EachOutputKeeps}
-use Rattle.loss_rules.specs.declared.answer.Answer.{Answer}
-use Rattle.loss_rules.specs.declared.answer.Answer.TheVariants as answer
+use Rattle.loss_rules.specs.Breaks.{Subject, IsKept, rule_number}
 use Rattle.relay_net.specs.Network.{Network}
-use Rattle.loss_rules.specs.declared.label.Duty.{Duty}
-use Rattle.loss_rules.specs.declared.label.Duty.TheVariants as duty
 use Rattle.loss_rules.specs.declared.label.Label.{Label}
-use Rattle.relay_conf.specs.declared.relay.MatchRule.{MatchRule}
 use Rattle.loss_rules.specs.declared.label.Reach.{Reach}
 use Rattle.loss_rules.specs.declared.answer.Rule.{Rule}
 use Rattle.loss_rules.specs.declared.answer.Rule.TheVariants as rule
@@ -62,31 +56,3 @@ in_plan {A} plan net labels reaches n l r P h =
     subst (λ (x : List (Reach A)). P (record plan { net = plan.net; labels = plan.labels; reaches = x })) r
     (subst (λ (x : List (Label A)). P (record plan { net = plan.net; labels = x; reaches = reaches })) l
     (subst (λ (x : Network A). P (record plan { net = x; labels = labels; reaches = reaches })) n h))
-
--- a match that does its duty, whichever it is, has an output that keeps or a relabel
-does_any : {A : Type 0} (asked : Duty) (found : MatchRule A) → DoesDuty asked found → KeepsOrRelabels found
-does_any duty.Any found does = does
-does_any duty.Every found does = does.0
-
-does_every : {A : Type 0} (asked : Duty) (found : MatchRule A) → asked ≡ duty.Every → DoesDuty asked found → AllKeepOrRelabel found
-does_every duty.Any found is does = absurd (cc)
-does_every duty.Every found is does = does.1
-
--- a yes under the duty every means that each output of each reached match keeps or is a relabel
-pub each_keeps : {A : Type 0} (s : Subject A) (found : Answer) → IsAnswer s found → found ≡ answer.Yes → s.duty ≡ duty.Every → EachOutputKeeps s.net s.reaches
-each_keeps s answer.Yes each is every = λ place scope r found at reached. does_every s.duty found every (each rule.ReachedMatchesKeep place scope r found at reached)
-each_keeps s (answer.No broken at) answered is every = absurd (cc)
-
--- a yes means that the rules hold that keep events
-pub rules_kept : {A : Type 0} (s : Subject A) (found : Answer) → IsAnswer s found → found ≡ answer.Yes → AreKeepingRulesKept s.net s.labels s.reaches
-rules_kept s answer.Yes each is = record {
-  servers = each rule.ServersAreSources;
-  clients = each rule.ClientsAreLabelled;
-  labels_matched = each rule.LabelsAreMatched;
-  covered = each rule.ReachesCover;
-  kept = λ place scope r found at reached. does_any s.duty found (each rule.ReachedMatchesKeep place scope r found at reached);
-  relabels = each rule.RelabelsAreLabelled;
-  forwards = each rule.ForwardsAreLabelled;
-  no_cycle = each rule.NoRelabelCycle;
-}
-rules_kept s (answer.No broken at) of is = absurd (cc)

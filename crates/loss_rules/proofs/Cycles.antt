@@ -6,8 +6,7 @@ use Rattle.std.specs.Option.{option_and_then, option_map}
 use Rattle.relay_conf.specs.declared.output.Output.{Output}
 use Rattle.relay_net.specs.Network.{Network}
 use Rattle.relay_net.specs.declared.node.Node.{Node}
-use Rattle.loss_rules.specs.Breaks.{BreaksAtOutput}
-use Rattle.loss_rules.specs.Everywhere.{AreLines}
+use Rattle.loss_rules.specs.Everywhere.{AreLines, BreaksAtOutput}
 use Rattle.loss_rules.specs.Rules.{IsOnNoCycle, NoRelabelCycle}
 use Rattle.loss_rules.specs.Sites.{line_of}
 use Rattle.loss_rules.specs.declared.label.Reach.{Reach}
@@ -84,13 +83,13 @@ abbrev pub IsBroken : {A : Type 0} → Network A → List (Reach A) → ℕ → 
 IsBroken net reaches = BreaksAtOutput net (λ place scope rule output relabel. IsOnNoCycle net reaches place scope rule relabel)
 
 broken-graph : {A : Type 0} (net : Network A) (reaches : List (Reach A)) (place : ℕ) (graph : List (List Relabel)) → IsGraphOf net reaches place graph → (line : ℕ) → (IsOnCycle graph line → ⊥) → IsBroken net reaches place line → ⊥
-broken-graph net reaches place graph is line none (scope, rule, output, found, at, same, broken) =
+broken-graph net reaches place graph is line none ((scope, rule, output, found), (at, same), broken) =
     broken (λ reached target rel goes. none (scope, (target, (is scope target line).1 (rule, output, found, at, reached, rel, same), goes-leads net reaches place graph is goes)))
 
 graph-broken : {A : Type 0} (net : Network A) (reaches : List (Reach A)) (place : ℕ) (graph : List (List Relabel)) → IsGraphOf net reaches place graph → (line : ℕ) → IsOnCycle graph line → IsBroken net reaches place line
 graph-broken net reaches place graph is line (scope, (target, has, leads)) =
     let r = (is scope target line).0 has in
-    (scope, r.0, r.1, r.2, r.3, r.6, λ kept. kept r.4 target r.5 (leads-goes net reaches place graph is leads))
+    ((scope, r.0, r.1, r.2), (r.3, r.6), λ kept. kept r.4 target r.5 (leads-goes net reaches place graph is leads))
 
 -- Nothing is broken in the first relays, so many of them.
 abbrev pub IsKeptBefore : {A : Type 0} → Network A → List (Reach A) → ℕ → Type 0
@@ -126,4 +125,4 @@ within (node ∷ nodes) (suc place) scope rule output found at = let less = with
 -- no relay is left
 pub kept-all : {A : Type 0} (net : Network A) (reaches : List (Reach A)) (count : ℕ) → length net.relays ≤ count → IsKeptBefore net reaches count → NoRelabelCycle net reaches
 kept-all net reaches count all before place scope rule output found at reached target rel goes =
-    before place (line_of found) (omega (arith, within net.relays place scope rule output found at)) (scope, rule, output, found, at, refl, λ kept. kept reached target rel goes)
+    before place (line_of found) (omega (arith, within net.relays place scope rule output found at)) ((scope, rule, output, found), (at, refl), λ kept. kept reached target rel goes)

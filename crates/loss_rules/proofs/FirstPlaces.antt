@@ -4,7 +4,7 @@ use Rattle.std.proofs.lemmas.Bool.{cases_eq}
 use Rattle.std.proofs.lemmas.List.Kept.{AllPairs-from_increasing}
 use Rattle.relay_net.specs.Network.{Network}
 use Rattle.relay_net.specs.declared.node.Node.{Node}
-use Rattle.loss_rules.specs.Breaks.{Subject, IsInConf, IsInPlan, AreNewBefore, BreaksAtSource, IsFirstTwice, IsBrokenAt}
+use Rattle.loss_rules.specs.Breaks.{Subject, IsFirstLine, AreNewBefore, BreaksAtSource, IsFirstTwice, IsBrokenAt}
 use Rattle.loss_rules.specs.Everywhere.{AreLines, plan_places, conf_places, AreInPlan, AreByRelays, AreInRelay, AreInConf, AreTwiceInRelay, AreTwice, AreBrokenPlaces}
 use Rattle.loss_rules.specs.declared.answer.Place.{Place}
 use Rattle.loss_rules.specs.declared.answer.Place.TheVariants as place
@@ -13,6 +13,25 @@ use Rattle.loss_rules.specs.declared.answer.Rule.TheVariants as rule
 use Rattle.loss_rules.specs.declared.label.RelayLine.{RelayLine}
 use Rattle.loss_rules.proofs.Lines.{none_broken}
 use Rattle.loss_rules.proofs.News.{new_more, sources_new}
+
+-- The place is a line of the plan, and this is broken there and in no line before it.
+abbrev pub IsInPlan : (ℕ → Type 0) → Place → Type 0
+IsInPlan B (place.Plan line) = B line × ((l : ℕ) → l < line → ¬ B l)
+IsInPlan B (place.Conf relay line) = ⊥
+
+-- The place is a line of a relay's configuration, and there this is broken first.
+abbrev pub IsInConf : {A : Type 0} → Network A → (ℕ → ℕ → Type 0) → Place → Type 0
+IsInConf net B (place.Plan line) = ⊥
+IsInConf {A} net B (place.Conf relay line) = (p : ℕ) × (node : Node A) × (slice_get net.relays p ≡ Some node) × (node.number ≡ relay) × IsFirstLine B p line
+
+-- what is said of such a place by its kind
+by_plan : (B : ℕ → Type 0) (Is : Place → Type 0) → ((line : ℕ) → IsInPlan B (place.Plan line) → Is (place.Plan line)) → (at : Place) → IsInPlan B at → Is at
+by_plan B Is says (place.Plan line) h = says line h
+by_plan B Is says (place.Conf relay line) h = absurd h
+
+by_conf : {A : Type 0} (net : Network A) (B : ℕ → ℕ → Type 0) (Is : Place → Type 0) → ((relay line : ℕ) → IsInConf net B (place.Conf relay line) → Is (place.Conf relay line)) → (at : Place) → IsInConf net B at → Is at
+by_conf net B Is says (place.Plan line) h = absurd h
+by_conf net B Is says (place.Conf relay line) h = says relay line h
 
 -- the first of rising lines is the least
 first_is_least : (B : ℕ → Type 0) (line : ℕ) (lines : List ℕ) → AreLines B (line ∷ lines) → B line × ((l : ℕ) → l < line → ¬ B l)
@@ -104,13 +123,13 @@ module _ {A : Type 0} where
 
   -- the first place where a rule is broken
   pub first_place : (s : Subject A) (r : Rule) (first : Place) (places : List Place) → AreBrokenPlaces s r (first ∷ places) → IsBrokenAt s r first
-  first_place s rule.AddressesAreDistinct first places = first_twice s.net s.relay_lines first places
-  first_place s rule.ServersAreSources first places = first_in_conf s.net _ first places
-  first_place s rule.ClientsAreLabelled first places = first_in_plan _ first places
-  first_place s rule.LabelsAreMatched first places = first_in_plan _ first places
-  first_place s rule.ReachesCover first places = first_in_plan _ first places
-  first_place s rule.ReachedMatchesKeep first places = first_in_conf s.net _ first places
-  first_place s rule.RelabelsAreLabelled first places = first_in_conf s.net _ first places
-  first_place s rule.ForwardsAreLabelled first places = first_in_conf s.net _ first places
-  first_place s rule.PathsAreDistinct first places = first_in_conf s.net _ first places
-  first_place s rule.NoRelabelCycle first places = first_in_conf s.net _ first places
+  first_place s rule.AddressesAreDistinct first places are = first_twice s.net s.relay_lines first places are
+  first_place s rule.ServersAreSources first places are = by_conf s.net _ (IsBrokenAt s rule.ServersAreSources) (λ relay line h. h) first (first_in_conf s.net _ first places are)
+  first_place s rule.ClientsAreLabelled first places are = by_plan _ (IsBrokenAt s rule.ClientsAreLabelled) (λ line h. h) first (first_in_plan _ first places are)
+  first_place s rule.LabelsAreMatched first places are = by_plan _ (IsBrokenAt s rule.LabelsAreMatched) (λ line h. h) first (first_in_plan _ first places are)
+  first_place s rule.ReachesCover first places are = by_plan _ (IsBrokenAt s rule.ReachesCover) (λ line h. h) first (first_in_plan _ first places are)
+  first_place s rule.ReachedMatchesKeep first places are = by_conf s.net _ (IsBrokenAt s rule.ReachedMatchesKeep) (λ relay line h. h) first (first_in_conf s.net _ first places are)
+  first_place s rule.RelabelsAreLabelled first places are = by_conf s.net _ (IsBrokenAt s rule.RelabelsAreLabelled) (λ relay line h. h) first (first_in_conf s.net _ first places are)
+  first_place s rule.ForwardsAreLabelled first places are = by_conf s.net _ (IsBrokenAt s rule.ForwardsAreLabelled) (λ relay line h. h) first (first_in_conf s.net _ first places are)
+  first_place s rule.PathsAreDistinct first places are = by_conf s.net _ (IsBrokenAt s rule.PathsAreDistinct) (λ relay line h. h) first (first_in_conf s.net _ first places are)
+  first_place s rule.NoRelabelCycle first places are = by_conf s.net _ (IsBrokenAt s rule.NoRelabelCycle) (λ relay line h. h) first (first_in_conf s.net _ first places are)

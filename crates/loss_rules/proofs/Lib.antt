@@ -6,6 +6,7 @@ pub mod Cycles
 pub mod Decisions
 pub mod FirstPlaces
 pub mod Hops
+pub mod Keeping
 pub mod Lines
 pub mod Matches
 pub mod Members

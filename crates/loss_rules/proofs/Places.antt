@@ -11,8 +11,7 @@ use Rattle.relay_conf.specs.declared.relay.Scope.{Scope}
 use Rattle.relay_net.specs.Network.{Network, relay_at}
 use Rattle.relay_net.specs.Outputs.{servers_of}
 use Rattle.relay_net.specs.declared.node.Node.{Node}
-use Rattle.loss_rules.specs.Breaks.{BreaksAtMatch, BreaksAtOutput, BreaksAtServer}
-use Rattle.loss_rules.specs.Everywhere.{AreInConf}
+use Rattle.loss_rules.specs.Everywhere.{AreInConf, BreaksAtMatch, BreaksAtOutput, BreaksAtServer}
 use Rattle.loss_rules.specs.Lines.{KeptInList, BrokenInList, KeptInRelay, BrokenInRelay, BrokenInNet}
 use Rattle.loss_rules.specs.Sites.{rule_at, output_in_rule, EachMatch, EachOutput, EachServer, line_of}
 use Rattle.loss_rules.specs.declared.answer.Place.{Place}
@@ -92,11 +91,11 @@ module _ {A : Type 0} where
 
   pub to_outputs : (net : Network A) (P : ℕ → ℕ → ℕ → ℕ → Output A → Type 0) (place line : ℕ)
       → BrokenInNet net (AtOutputs (λ p s r o other l. (line_of other ≡ l) × ¬ P p s r o other)) place line → BreaksAtOutput net P place line
-  to_outputs net P place line (scope, rule, found, is, (output, other, at, broken)) = (scope, rule, output, other, output_there net place scope rule output found other is at, broken.0, broken.1)
+  to_outputs net P place line (scope, rule, found, is, (output, other, at, broken)) = ((scope, rule, output, other), (output_there net place scope rule output found other is at, broken.0), broken.1)
 
   pub from_outputs : (net : Network A) (P : ℕ → ℕ → ℕ → ℕ → Output A → Type 0) (place line : ℕ)
       → BreaksAtOutput net P place line → BrokenInNet net (AtOutputs (λ p s r o other l. (line_of other ≡ l) × ¬ P p s r o other)) place line
-  from_outputs net P place line (scope, rule, output, other, is, at, broken) =
+  from_outputs net P place line ((scope, rule, output, other), (is, at), broken) =
       option_and_then_some (λ m. slice_get m.outputs.items output) (rule_at net place scope rule) other is (λ found there o. (scope, rule, found, there, (output, other, o, (at, broken))))
 
   -- Servers of outputs.
@@ -108,11 +107,11 @@ module _ {A : Type 0} where
   pub to_servers : (net : Network A) (P : ℕ → ℕ → ℕ → Server A → Type 0) (place line : ℕ)
       → BrokenInNet net (AtOutputs (λ p s r o other l. BrokenInList (λ number server at. (server.line ≡ at) × ¬ P p s r server) (servers_of other) l)) place line → BreaksAtServer net P place line
   to_servers net P place line (scope, rule, found, is, (output, other, at, (number, server, server_is, broken))) =
-      (scope, rule, output, other, server, output_there net place scope rule output found other is at, contained (servers_of other) number server server_is, broken.0, broken.1)
+      ((scope, rule, output, other, server), (output_there net place scope rule output found other is at, contained (servers_of other) number server server_is, broken.0), broken.1)
 
   pub from_servers : (net : Network A) (P : ℕ → ℕ → ℕ → Server A → Type 0) (place line : ℕ)
       → BreaksAtServer net P place line → BrokenInNet net (AtOutputs (λ p s r o other l. BrokenInList (λ number server at. (server.line ≡ at) × ¬ P p s r server) (servers_of other) l)) place line
-  from_servers net P place line (scope, rule, output, other, server, is, within, at, broken) =
+  from_servers net P place line ((scope, rule, output, other, server), (is, within, at), broken) =
       let there : (n : ℕ) × (slice_get (servers_of other) n ≡ Some server) = place_of_contained (servers_of other) server within in
       option_and_then_some (λ m. slice_get m.outputs.items output) (rule_at net place scope rule) other is (λ found m o. (scope, rule, found, m, (output, other, o, (there.0, server, there.1, (at, broken)))))
 
@@ -120,11 +119,11 @@ module _ {A : Type 0} where
 
   pub to_matches : (net : Network A) (P : ℕ → ℕ → ℕ → MatchRule A → Type 0) (place line : ℕ)
       → BrokenInNet net (λ p s r found l. (found.line ≡ l) × ¬ P p s r found) place line → BreaksAtMatch net P place line
-  to_matches net P place line (scope, rule, found, is, broken) = (scope, rule, found, is, broken.0, broken.1)
+  to_matches net P place line (scope, rule, found, is, broken) = ((scope, rule, found), (is, broken.0), broken.1)
 
   pub from_matches : (net : Network A) (P : ℕ → ℕ → ℕ → MatchRule A → Type 0) (place line : ℕ)
       → BreaksAtMatch net P place line → BrokenInNet net (λ p s r found l. (found.line ≡ l) × ¬ P p s r found) place line
-  from_matches net P place line (scope, rule, found, is, at, broken) = (scope, rule, found, is, (at, broken))
+  from_matches net P place line ((scope, rule, found), (is, at), broken) = (scope, rule, found, is, (at, broken))
 
   -- The places of these.
 

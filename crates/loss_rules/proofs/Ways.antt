@@ -1,5 +1,5 @@
 -- The way of an event whose tag is one of a label.
-use Rattle.std.proofs.Common.{◌≡◌, ℕ, zero, suc, ◌+◌, ◌<◌, ◌≤◌, List, [], ◌∷◌, length, Option, Some, None, slice_get, refl, sym, ap, subst, ◌∙◌, ◌⊎◌, inl, inr, arith, Contains, IsSomeAnd}
+use Rattle.std.proofs.Common.{◌≡◌, ℕ, zero, suc, ◌+◌, ◌<◌, ◌≤◌, List, [], ◌∷◌, length, Option, Some, None, slice_get, refl, sym, ap, subst, ◌∙◌, ◌⊎◌, inl, inr, arith, All, Any, Contains, IsSomeAnd}
 use Rattle.std.specs.Option.{option_and_then}
 use Rattle.std.proofs.lemmas.List.Elements.{All-contains}
 use Rattle.std.proofs.lemmas.Option.{same_Some, slice_get_read}
@@ -15,13 +15,14 @@ use Rattle.route_graph.specs.declared.hop.Hop.{Hop}
 use Rattle.route_graph.proofs.Members.{cons-cases, nil-none}
 use Rattle.route_graph.proofs.WalkLaws.{leads-on}
 use Rattle.loss_rules.specs.Labels.{IsLabelledTag, IsReachedTag}
-use Rattle.loss_rules.specs.Rules.{AreKeepingRulesKept, GoesOn, KeepsOrRelabels, AllKeepOrRelabel, EachOutputKeeps}
-use Rattle.loss_rules.specs.Sites.{rule_at, output_in_rule, line_of, BuffersAreDistinct, RelabelsTo}
+use Rattle.loss_rules.specs.Rules.{GoesOn, KeepsOrRelabels}
+use Rattle.loss_rules.specs.Sites.{rule_at, output_in_rule, line_of, BuffersAreDistinct}
 use Rattle.loss_rules.specs.declared.label.Label.{Label}
 use Rattle.loss_rules.specs.declared.label.Reach.{Reach}
 use Rattle.loss_rules.specs.SafeWays.{IsFirstTaker, IsLabelledOnward, IsSafeWay}
 use Rattle.loss_rules.proofs.Counts.{AreApart, apart-few}
 use Rattle.loss_rules.proofs.Hops.{to_buffer, to_scope, hop-output, output-hop, buffer-number, number-buffer, scope-relabel, relabel-scope, keeps-number}
+use Rattle.loss_rules.proofs.Keeping.{KeepingRules, EachOutputKeeps}
 use Rattle.loss_rules.proofs.Passing.{reached-tag, reach-labelled, label-pattern, pattern-taken, taken-reached}
 use Rattle.loss_rules.proofs.Sites.{output-found, place-contains, scope_count, scope-within}
 use Rattle.loss_rules.proofs.Takers.{taker-first, first-taker}
@@ -54,14 +55,14 @@ abbrev AreBehind : {A : Type 0} → Network A → ℕ → List ℕ → List ℕ 
 AreBehind net place tag seen scope = (before : ℕ) → Contains seen before → IsBehind net place tag scope before
 
 -- an output of a match whose outputs all keep or are relabels is one of these
-each-output : {A : Type 0} (o : Option (MatchRule A)) (output : ℕ) (found : Output A) → option_and_then (λ r. slice_get r.outputs.items output) o ≡ Some found → ((r : MatchRule A) → o ≡ Some r → AllKeepOrRelabel r)
-    → Keeps found ⊎ ((scope : ℕ) × RelabelsTo found scope)
+each-output : {A : Type 0} (o : Option (MatchRule A)) (output : ℕ) (found : Output A) → option_and_then (λ r. slice_get r.outputs.items output) o ≡ Some found → ((r : MatchRule A) → o ≡ Some r → All KeepsOrRelabels r.outputs.items)
+    → KeepsOrRelabels found
 each-output None output found e all = absurd (cc)
-each-output (Some r) output found e all = All-contains (λ found. Keeps found ⊎ ((scope : ℕ) × RelabelsTo found scope)) r.outputs.items found (all r refl) (place-contains r.outputs.items output found e)
+each-output (Some r) output found e all = All-contains KeepsOrRelabels r.outputs.items found (all r refl) (place-contains r.outputs.items output found e)
 
 -- ---- the way, under the rules
 
-module _ {A : Type 0} (net : Network A) (labels : List (Label A)) (reaches : List (Reach A)) (distinct : BuffersAreDistinct net) (kept : AreKeepingRulesKept net labels reaches) (place : ℕ) (tag : List ℕ) where
+module _ {A : Type 0} (net : Network A) (labels : List (Label A)) (reaches : List (Reach A)) (distinct : BuffersAreDistinct net) (kept : KeepingRules net labels reaches) (place : ℕ) (tag : List ℕ) where
   some-first : (scope : ℕ) → IsLabelledTag labels place scope tag → (rule : ℕ) × IsFirstTaker net place scope tag rule
   some-first scope labelled = pattern-taken net reaches place scope tag (label-pattern net labels reaches kept.labels_matched kept.covered place scope tag labelled)
 
@@ -145,7 +146,7 @@ module _ {A : Type 0} (net : Network A) (labels : List (Label A)) (reaches : Lis
   handed-on scope rule first o found hop e h = (rule_of first.found, first-taker net place scope tag rule first, output-hop first.found.outputs.items o found hop e h)
 
   -- the event comes to an output that keeps, or goes on to another scope
-  step-of : (scope rule : ℕ) → (first : IsFirstTaker net place scope tag rule) → KeepsOrRelabels first.found → IsKeptAt net place scope tag ⊎ ((target : ℕ) × IsRelabelled (table_at net place) tag scope target)
+  step-of : (scope rule : ℕ) → (first : IsFirstTaker net place scope tag rule) → Any KeepsOrRelabels first.found.outputs.items → IsKeptAt net place scope tag ⊎ ((target : ℕ) × IsRelabelled (table_at net place) tag scope target)
   step-of scope rule first (o, found, less, is, inl keeps) =
       let e : slice_get first.found.outputs.items o ≡ Some found = slice_get_read first.found.outputs.items (length first.found.outputs.items) o found refl less (sym is) in
       let there : output_in_rule net place scope rule o ≡ Some found = ap (option_and_then (λ (r : MatchRule A). slice_get r.outputs.items o)) first.is_found ∙ e in
@@ -220,10 +221,10 @@ module _ {A : Type 0} (net : Network A) (labels : List (Label A)) (reaches : Lis
       }
 
 -- under the rules each tag of a label has a safe way from the label's scope
-pub labelled_safe : {A : Type 0} (net : Network A) (labels : List (Label A)) (reaches : List (Reach A)) → BuffersAreDistinct net → AreKeepingRulesKept net labels reaches → (place scope : ℕ) (tag : List ℕ) → IsLabelledTag labels place scope tag → IsSafeWay net labels reaches place scope tag
+pub labelled_safe : {A : Type 0} (net : Network A) (labels : List (Label A)) (reaches : List (Reach A)) → BuffersAreDistinct net → KeepingRules net labels reaches → (place scope : ℕ) (tag : List ℕ) → IsLabelledTag labels place scope tag → IsSafeWay net labels reaches place scope tag
 labelled_safe net labels reaches distinct kept place scope tag labelled = safe-way net labels reaches distinct kept place tag scope labelled
 
 -- where each output of each reached match keeps or is a relabel besides, each leaf of the way keeps
-pub labelled_kept : {A : Type 0} (net : Network A) (labels : List (Label A)) (reaches : List (Reach A)) → BuffersAreDistinct net → AreKeepingRulesKept net labels reaches → EachOutputKeeps net reaches
+pub labelled_kept : {A : Type 0} (net : Network A) (labels : List (Label A)) (reaches : List (Reach A)) → BuffersAreDistinct net → KeepingRules net labels reaches → EachOutputKeeps net reaches
     → (place scope : ℕ) (tag : List ℕ) → IsLabelledTag labels place scope tag → (buffer : ℕ) → IsLeaf (table_at net place) tag scope buffer → IsSomeAnd (output_at net place buffer) Keeps
 labelled_kept net labels reaches distinct kept each place scope tag labelled buffer leaf = leaf-keeps net labels reaches distinct kept place tag each leaf labelled

@@ -1,16 +1,13 @@
 -- Where a rule is broken first, and what the checker's answer means.
-use Rattle.std.specs.Prelude.{◌≡◌, ◌<◌, ℕ, List, Some, slice_get, Any, Contains, IsSome}
+use Rattle.std.specs.Prelude.{◌≡◌, ◌≢◌, ◌<◌, ℕ, List, Some, slice_get, slice_index_or, Contains, IsSome}
 use Rattle.relay_conf.specs.declared.output.Output.{Output}
-use Rattle.relay_conf.specs.declared.output.Server.{Server}
-use Rattle.relay_conf.specs.declared.relay.MatchRule.{MatchRule}
 use Rattle.relay_conf.specs.declared.relay.Source.{Source}
 use Rattle.relay_net.specs.Network.{Network, entrance, address_of_server}
-use Rattle.relay_net.specs.Outputs.{servers_of}
 use Rattle.relay_net.specs.declared.node.Client.{Client}
 use Rattle.relay_net.specs.declared.node.Node.{Node}
 use Rattle.loss_rules.specs.Labels.{IsReached}
-use Rattle.loss_rules.specs.Sites.{rule_at, output_in_rule, line_of}
-use Rattle.loss_rules.specs.Rules.{RelayIsNew, source_in, SourceIsNew, AddressesAreDistinct, ServersAreSources, IsLabelledClient, ClientsAreLabelled, IsMatchedLabel, LabelsAreMatched, IsCoveredLabel, ReachesCover, DoesDuty, ReachedMatchesDo, IsLabelledRelabel, RelabelsAreLabelled, IsLabelledServer, ForwardsAreLabelled, SharePath, PathsAreDistinct, IsOnNoCycle, NoRelabelCycle}
+use Rattle.loss_rules.specs.Sites.{output_in_rule, line_of, MatchStands, OutputStands, ServerStands}
+use Rattle.loss_rules.specs.Rules.{RelayIsNew, source_in, SourceIsNew, AddressesAreDistinct, IsLabelledClient, IsMatchedLabel, IsCoveredLabel, DoesDuty, IsLabelledRelabel, IsLabelledServer, SharePath, IsOnNoCycle}
 use Rattle.loss_rules.specs.declared.answer.Answer.{Answer}
 use Rattle.loss_rules.specs.declared.answer.Answer.TheVariants as answer
 use Rattle.loss_rules.specs.declared.answer.Place.{Place}
@@ -41,19 +38,6 @@ pub record IsFirstLine (Breaks : ℕ → ℕ → Type 0) (place line : ℕ) : Ty
   pub relays_before : (p l : ℕ) → p < place → ¬ Breaks p l
   pub lines_before : (l : ℕ) → l < line → ¬ Breaks place l
 
--- A match of the relay, opened in this line, isn't as it should be.
-abbrev pub BreaksAtMatch : {A : Type 0} → Network A → (ℕ → ℕ → ℕ → MatchRule A → Type 0) → ℕ → ℕ
-    → Type 0
-BreaksAtMatch {A} net P place line = (scope r : ℕ) × (found : MatchRule A)
-    × (rule_at net place scope r ≡ Some found) × (found.line ≡ line) × ¬ P place scope r found
-
--- An output of the relay, in this line, isn't as it should be.
-abbrev pub BreaksAtOutput : {A : Type 0} → Network A → (ℕ → ℕ → ℕ → ℕ → Output A → Type 0) → ℕ → ℕ
-    → Type 0
-BreaksAtOutput {A} net P place line = (scope r output : ℕ) × (found : Output A)
-    × (output_in_rule net place scope r output ≡ Some found) × (line_of found ≡ line)
-    × ¬ P place scope r output found
-
 -- Each other output of the relay that shares a path with the output at this place stands in a later
 -- line.
 abbrev pub IsFirstOfPath : {A : Type 0} → Network A → ℕ → ℕ → ℕ → ℕ → Output A → Type 0
@@ -62,35 +46,50 @@ IsFirstOfPath {A} net place scope rule output found = (s r o : ℕ) (other : Out
     → ¬ ((s ≡ scope) × (r ≡ rule) × (o ≡ output)) → SharePath other found
     → line_of found < line_of other
 
--- A server of an output of the relay, opened in this line, isn't as it should be.
-abbrev pub BreaksAtServer : {A : Type 0} → Network A → (ℕ → ℕ → ℕ → Server A → Type 0) → ℕ → ℕ
-    → Type 0
-BreaksAtServer {A} net P place line = (scope r output : ℕ) × (found : Output A)
-    × (server : Server A) × (output_in_rule net place scope r output ≡ Some found)
-    × Contains (servers_of found) server × (server.line ≡ line) × ¬ P place scope r server
+-- Of a rule, what it asks of all that stands in one line: all of it is so; or something isn't.
+pub record Asked : Type 1 where
+  pub kept : Type 0
+  pub broken : Type 0
 
--- The place is a line of a relay's configuration, and there this is broken first.
-abbrev pub IsInConf : {A : Type 0} → Network A → (ℕ → ℕ → Type 0) → Place → Type 0
-IsInConf net Breaks (place.Plan line) = ⊥
-IsInConf {A} net Breaks (place.Conf relay line) = (p : ℕ) × (node : Node A)
-    × (slice_get net.relays p ≡ Some node) × (node.number ≡ relay) × IsFirstLine Breaks p line
+-- this is asked of each thing that stands there
+abbrev pub asked : {X : Type 0} → (X → Type 0) → (X → Type 0) → Asked
+asked {X} Stands P = record {
+  kept = (x : X) → Stands x → P x;
+  broken = (x : X) × Stands x × ¬ P x;
+}
 
--- In the plan: by lines.
+-- what a rule asks in a line of the configuration of the relay at this place
+abbrev pub asked_in_conf : {A : Type 0} → Subject A → Rule → ℕ → ℕ → Asked
+asked_in_conf s rule.ServersAreSources place line =
+    asked (ServerStands s.net place line) (λ x. IsSome (entrance s.net (address_of_server x.4)))
+asked_in_conf s rule.ReachedMatchesKeep place line =
+    asked (MatchStands s.net place line)
+    (λ x. IsReached s.reaches place x.0 x.1 → DoesDuty s.duty x.2)
+asked_in_conf s rule.RelabelsAreLabelled place line =
+    asked (OutputStands s.net place line)
+    (λ x. IsLabelledRelabel s.labels s.reaches place x.0 x.1 x.3)
+asked_in_conf s rule.ForwardsAreLabelled place line =
+    asked (ServerStands s.net place line)
+    (λ x. IsLabelledServer s.net s.labels s.reaches place x.0 x.1 (address_of_server x.4))
+asked_in_conf s rule.PathsAreDistinct place line =
+    asked (OutputStands s.net place line) (λ x. IsFirstOfPath s.net place x.0 x.1 x.2 x.3)
+asked_in_conf s rule.NoRelabelCycle place line =
+    asked (OutputStands s.net place line)
+    (λ x. IsOnNoCycle s.net s.reaches place x.0 x.1 x.3)
+asked_in_conf s _ place line = record { kept = Unit {0}; broken = ⊥ }
 
--- The place is a line of the plan, and this is broken there and in no line before it.
-abbrev pub IsInPlan : (ℕ → Type 0) → Place → Type 0
-IsInPlan Breaks (place.Plan line) = Breaks line × ((l : ℕ) → l < line → ¬ Breaks l)
-IsInPlan Breaks (place.Conf relay line) = ⊥
-
--- A client of this line isn't as it should be.
-abbrev pub BreaksAtClient : {A : Type 0} → Network A → List ℕ → (Client A → Type 0) → ℕ → Type 0
-BreaksAtClient {A} net lines P line = (number : ℕ) × (client : Client A)
-    × (slice_get net.clients number ≡ Some client) × (slice_get lines number ≡ Some line)
-    × ¬ P client
-
--- A label of this line isn't as it should be.
-abbrev pub BreaksAtLabel : {A : Type 0} → List (Label A) → (Label A → Type 0) → ℕ → Type 0
-BreaksAtLabel labels P line = Any (λ label. (label.line ≡ line) × ¬ P label) labels
+-- what it asks in a line of the plan; a client without a line stands in line 0
+abbrev pub asked_in_plan : {A : Type 0} → Subject A → Rule → ℕ → Asked
+asked_in_plan {A} s rule.ClientsAreLabelled line =
+    asked {X = ℕ × Client A} (λ x. (slice_get s.net.clients x.0 ≡ Some x.1)
+    × (slice_index_or s.client_lines x.0 0 ≡ line))
+    (λ x. IsLabelledClient s.net s.labels x.1)
+asked_in_plan s rule.LabelsAreMatched line =
+    asked (λ label. Contains s.labels label × (label.line ≡ line)) (IsMatchedLabel s.net)
+asked_in_plan s rule.ReachesCover line =
+    asked (λ label. Contains s.labels label × (label.line ≡ line))
+    (IsCoveredLabel s.net s.reaches)
+asked_in_plan s _ line = record { kept = Unit {0}; broken = ⊥ }
 
 -- Numbers, folders and addresses: each relay's line of the plan, then its sources, then the next
 -- relay.
@@ -134,42 +133,18 @@ rule_number rule.NoRelabelCycle = 10
 -- The rule holds.
 abbrev pub IsKept : {A : Type 0} → Subject A → Rule → Type 0
 IsKept s rule.AddressesAreDistinct = AddressesAreDistinct s.net s.relay_lines
-IsKept s rule.ServersAreSources = ServersAreSources s.net
-IsKept s rule.ClientsAreLabelled = ClientsAreLabelled s.net s.labels
-IsKept s rule.LabelsAreMatched = LabelsAreMatched s.net s.labels
-IsKept s rule.ReachesCover = ReachesCover s.net s.labels s.reaches
-IsKept s rule.ReachedMatchesKeep = ReachedMatchesDo s.net s.duty s.reaches
-IsKept s rule.RelabelsAreLabelled = RelabelsAreLabelled s.net s.labels s.reaches
-IsKept s rule.ForwardsAreLabelled = ForwardsAreLabelled s.net s.labels s.reaches
-IsKept s rule.PathsAreDistinct = PathsAreDistinct s.net
-IsKept s rule.NoRelabelCycle = NoRelabelCycle s.net s.reaches
+IsKept s each = ((line : ℕ) → (asked_in_plan s each line).kept)
+    × ((place line : ℕ) → (asked_in_conf s each place line).kept)
 
--- The rule is broken, and first at this place.
+-- The rule is broken, and first at this place: in the first line of the plan; or in the first relay
+-- in which it is broken anywhere, and in the first such line of its configuration.
 abbrev pub IsBrokenAt : {A : Type 0} → Subject A → Rule → Place → Type 0
-IsBrokenAt s rule.AddressesAreDistinct = IsFirstTwice s.net s.relay_lines
-IsBrokenAt s rule.ServersAreSources =
-    IsInConf s.net
-    (BreaksAtServer s.net (λ p scope r server. IsSome (entrance s.net (address_of_server server))))
-IsBrokenAt s rule.ClientsAreLabelled =
-    IsInPlan (BreaksAtClient s.net s.client_lines (IsLabelledClient s.net s.labels))
-IsBrokenAt s rule.LabelsAreMatched = IsInPlan (BreaksAtLabel s.labels (IsMatchedLabel s.net))
-IsBrokenAt s rule.ReachesCover = IsInPlan (BreaksAtLabel s.labels (IsCoveredLabel s.net s.reaches))
-IsBrokenAt s rule.ReachedMatchesKeep =
-    IsInConf s.net (BreaksAtMatch s.net (λ p scope r found. IsReached s.reaches p scope r
-    → DoesDuty s.duty found))
-IsBrokenAt s rule.RelabelsAreLabelled =
-    IsInConf s.net
-    (BreaksAtOutput s.net
-    (λ p scope r output found. IsLabelledRelabel s.labels s.reaches p scope r found))
-IsBrokenAt s rule.ForwardsAreLabelled =
-    IsInConf s.net
-    (BreaksAtServer s.net
-    (λ p scope r server.
-    IsLabelledServer s.net s.labels s.reaches p scope r (address_of_server server)))
-IsBrokenAt s rule.PathsAreDistinct = IsInConf s.net (BreaksAtOutput s.net (IsFirstOfPath s.net))
-IsBrokenAt s rule.NoRelabelCycle =
-    IsInConf s.net
-    (BreaksAtOutput s.net (λ p scope r output found. IsOnNoCycle s.net s.reaches p scope r found))
+IsBrokenAt s rule.AddressesAreDistinct at = IsFirstTwice s.net s.relay_lines at
+IsBrokenAt s each (place.Plan line) = (asked_in_plan s each line).broken
+    × ((l : ℕ) → l < line → ¬ (asked_in_plan s each l).broken)
+IsBrokenAt {A} s each (place.Conf relay line) = (p : ℕ) × (node : Node A)
+    × (slice_get s.net.relays p ≡ Some node) × (node.number ≡ relay)
+    × IsFirstLine (λ q l. (asked_in_conf s each q l).broken) p line
 
 -- The answer is yes, and each rule holds; or it is no, and the rule is the first that is broken,
 -- first at this place.
@@ -177,3 +152,9 @@ abbrev pub IsAnswer : {A : Type 0} → Subject A → Answer → Type 0
 IsAnswer s answer.Yes = (each : Rule) → IsKept s each
 IsAnswer s (answer.No broken at) = ((before : Rule) → rule_number before < rule_number broken
     → IsKept s before) × IsBrokenAt s broken at
+
+-- The rules hold that keep events: all but those on what is distinct, which serve that no two
+-- relays, buffers or sinks are taken for one.
+abbrev pub AreKeepingRulesKept : {A : Type 0} → Subject A → Type 0
+AreKeepingRulesKept s = (each : Rule) → each ≢ rule.AddressesAreDistinct
+    → each ≢ rule.PathsAreDistinct → IsKept s each

@@ -1,16 +1,51 @@
 -- Every place where a rule is broken.
-use Rattle.std.specs.Prelude.{◌≡◌, ◌↔◌, ◌⊎◌, ◌+◌, ℕ, List, [], ◌∷◌, ◌++◌, map, Some, slice_get, Contains, IsSome}
+use Rattle.std.specs.Prelude.{◌≡◌, ◌↔◌, ◌⊎◌, ◌+◌, ℕ, List, [], ◌∷◌, ◌++◌, map, Some, slice_get, slice_index_or, Contains, IsSome}
 use Rattle.std.specs.List.Sorted.{IsStrictlyIncreasing}
+use Rattle.relay_conf.specs.declared.output.Output.{Output}
+use Rattle.relay_conf.specs.declared.output.Server.{Server}
+use Rattle.relay_conf.specs.declared.relay.MatchRule.{MatchRule}
 use Rattle.relay_net.specs.Network.{Network, entrance, address_of_server}
+use Rattle.relay_net.specs.declared.node.Client.{Client}
 use Rattle.relay_net.specs.declared.node.Node.{Node}
-use Rattle.loss_rules.specs.Breaks.{Subject, BreaksAtMatch, BreaksAtOutput, BreaksAtServer, BreaksAtClient, BreaksAtLabel, BreaksAtSource, IsFirstOfPath}
+use Rattle.loss_rules.specs.Breaks.{Subject, asked, BreaksAtSource, IsFirstOfPath}
 use Rattle.loss_rules.specs.Labels.{IsReached}
 use Rattle.loss_rules.specs.Rules.{RelayIsNew, IsLabelledClient, IsMatchedLabel, IsCoveredLabel, DoesDuty, IsLabelledRelabel, IsLabelledServer, IsOnNoCycle}
+use Rattle.loss_rules.specs.Sites.{MatchStands, OutputStands, ServerStands}
 use Rattle.loss_rules.specs.declared.answer.Place.{Place}
 use Rattle.loss_rules.specs.declared.answer.Place.TheVariants as place
 use Rattle.loss_rules.specs.declared.answer.Rule.{Rule}
 use Rattle.loss_rules.specs.declared.answer.Rule.TheVariants as rule
+use Rattle.loss_rules.specs.declared.label.Label.{Label}
 use Rattle.loss_rules.specs.declared.label.RelayLine.{RelayLine}
+
+-- In this line of the relay's configuration this isn't so of a match.
+abbrev pub BreaksAtMatch : {A : Type 0} → Network A → (ℕ → ℕ → ℕ → MatchRule A → Type 0) → ℕ → ℕ
+    → Type 0
+BreaksAtMatch net P place line =
+    (asked (MatchStands net place line) (λ x. P place x.0 x.1 x.2)).broken
+
+-- Of an output.
+abbrev pub BreaksAtOutput : {A : Type 0} → Network A → (ℕ → ℕ → ℕ → ℕ → Output A → Type 0) → ℕ → ℕ
+    → Type 0
+BreaksAtOutput net P place line =
+    (asked (OutputStands net place line) (λ x. P place x.0 x.1 x.2 x.3)).broken
+
+-- Of a server of an output.
+abbrev pub BreaksAtServer : {A : Type 0} → Network A → (ℕ → ℕ → ℕ → Server A → Type 0) → ℕ → ℕ
+    → Type 0
+BreaksAtServer net P place line =
+    (asked (ServerStands net place line) (λ x. P place x.0 x.1 x.4)).broken
+
+-- In this line of the plan this isn't so of a client.
+abbrev pub BreaksAtClient : {A : Type 0} → Network A → List ℕ → (Client A → Type 0) → ℕ → Type 0
+BreaksAtClient {A} net lines P line =
+    (asked {X = ℕ × Client A} (λ x. (slice_get net.clients x.0 ≡ Some x.1) × (slice_index_or lines x.0 0 ≡ line))
+    (λ x. P x.1)).broken
+
+-- Of a label.
+abbrev pub BreaksAtLabel : {A : Type 0} → List (Label A) → (Label A → Type 0) → ℕ → Type 0
+BreaksAtLabel labels P line =
+    (asked (λ label. Contains labels label × (label.line ≡ line)) P).broken
 
 -- These are the lines in which this is broken, each once, in rising order.
 pub record AreLines (Breaks : ℕ → Type 0) (lines : List ℕ) : Type 0 where

@@ -126,33 +126,22 @@ ReachesCover net labels reaches = All (IsCoveredLabel net reaches) labels
 
 -- 6. Reached matches keep.
 
--- One of the match's outputs keeps, or sends events on to another scope.
-abbrev pub KeepsOrRelabels : {A : Type 0} → MatchRule A → Type 0
-KeepsOrRelabels rule =
-    Any (λ found. Keeps found ⊎ ((scope : ℕ) × RelabelsTo found scope)) rule.outputs.items
-
--- Each of the match's outputs keeps, or sends events on to another scope.
-abbrev pub AllKeepOrRelabel : {A : Type 0} → MatchRule A → Type 0
-AllKeepOrRelabel rule =
-    All (λ found. Keeps found ⊎ ((scope : ℕ) × RelabelsTo found scope)) rule.outputs.items
+-- The output keeps, or sends events on to another scope.
+abbrev pub KeepsOrRelabels : {A : Type 0} → Output A → Type 0
+KeepsOrRelabels found = Keeps found ⊎ ((scope : ℕ) × RelabelsTo found scope)
 
 -- The match does what the plan asks of it: one of its outputs keeps or sends events on, and under
 -- the duty every each of them.
 abbrev pub DoesDuty : {A : Type 0} → Duty → MatchRule A → Type 0
-DoesDuty duty.Any rule = KeepsOrRelabels rule
-DoesDuty duty.Every rule = KeepsOrRelabels rule × AllKeepOrRelabel rule
+DoesDuty duty.Any rule = Any KeepsOrRelabels rule.outputs.items
+DoesDuty duty.Every rule = Any KeepsOrRelabels rule.outputs.items
+    × All KeepsOrRelabels rule.outputs.items
 
 -- This is so of each reached match.
 abbrev pub ReachedMatchesDo : {A : Type 0} → Network A → Duty → List (Reach A) → Type 0
 ReachedMatchesDo net duty reaches =
     EachMatch net (λ place scope rule found. IsReached reaches place scope rule
     → DoesDuty duty found)
-
--- Each output of each reached match keeps, or sends events on to another scope.
-abbrev pub EachOutputKeeps : {A : Type 0} → Network A → List (Reach A) → Type 0
-EachOutputKeeps net reaches =
-    EachMatch net (λ place scope rule found. IsReached reaches place scope rule
-    → AllKeepOrRelabel found)
 
 -- 7. Relabels are labelled.
 
@@ -232,17 +221,3 @@ IsOnNoCycle net reaches place scope rule found = IsReached reaches place scope r
 abbrev pub NoRelabelCycle : {A : Type 0} → Network A → List (Reach A) → Type 0
 NoRelabelCycle net reaches =
     EachOutput net (λ place scope rule output found. IsOnNoCycle net reaches place scope rule found)
-
--- The rules that keep events: all but those on what is distinct, which serve that no two relays,
--- buffers or sinks are taken for one.
-pub record AreKeepingRulesKept {A : Type 0} (net : Network A) (labels : List (Label A))
-    (reaches : List (Reach A)) : Type 0 where
-  pub servers : ServersAreSources net
-  pub clients : ClientsAreLabelled net labels
-  pub labels_matched : LabelsAreMatched net labels
-  pub covered : ReachesCover net labels reaches
-  pub kept : EachMatch net (λ place scope rule found. IsReached reaches place scope rule
-      → KeepsOrRelabels found)
-  pub relabels : RelabelsAreLabelled net labels reaches
-  pub forwards : ForwardsAreLabelled net labels reaches
-  pub no_cycle : NoRelabelCycle net reaches

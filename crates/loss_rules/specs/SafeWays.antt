@@ -8,9 +8,10 @@ use Rattle.relay_net.specs.Outputs.{servers_of, Keeps}
 use Rattle.relay_net.specs.Ways.{table_at}
 use Rattle.relay_net.specs.declared.address.Entrance.{Entrance}
 use Rattle.route_graph.specs.Ways.{HaveTag, IsLeaf, IsLoop}
+use Rattle.loss_rules.specs.Breaks.{Subject, AreKeepingRulesKept}
 use Rattle.loss_rules.specs.Labels.{IsLabelledTag, IsReachedTag}
-use Rattle.loss_rules.specs.Rules.{AreKeepingRulesKept, EachOutputKeeps}
 use Rattle.loss_rules.specs.Sites.{rule_at, BuffersAreDistinct}
+use Rattle.loss_rules.specs.declared.label.Duty.TheVariants as duty
 use Rattle.loss_rules.specs.declared.label.Label.{Label}
 use Rattle.loss_rules.specs.declared.label.Reach.{Reach}
 
@@ -48,16 +49,14 @@ pub record IsSafeWay {A : Type 0} (net : Network A) (labels : List (Label A))
 
 -- Under the rules, each tag of a label has such a way from the label's scope.
 abbrev pub LabelledTagsAreSafe : Type 0 → Type 0
-LabelledTagsAreSafe A = (net : Network A) (labels : List (Label A)) (reaches : List (Reach A))
-    → BuffersAreDistinct net → AreKeepingRulesKept net labels reaches
-    → (place scope : ℕ) (tag : List ℕ) → IsLabelledTag labels place scope tag
-    → IsSafeWay net labels reaches place scope tag
+LabelledTagsAreSafe A = (s : Subject A) → BuffersAreDistinct s.net → AreKeepingRulesKept s
+    → (place scope : ℕ) (tag : List ℕ) → IsLabelledTag s.labels place scope tag
+    → IsSafeWay s.net s.labels s.reaches place scope tag
 
--- Where each output of each reached match keeps or is a relabel besides, each leaf of such a way is
--- of an output that keeps.
+-- Under the duty every each leaf of such a way is of an output that keeps.
 abbrev pub LabelledLeavesKeep : Type 0 → Type 0
-LabelledLeavesKeep A = (net : Network A) (labels : List (Label A)) (reaches : List (Reach A))
-    → BuffersAreDistinct net → AreKeepingRulesKept net labels reaches → EachOutputKeeps net reaches
-    → (place scope : ℕ) (tag : List ℕ) → IsLabelledTag labels place scope tag → (buffer : ℕ)
-    → IsLeaf (table_at net place) tag scope buffer
-    → IsSomeAnd (output_at net place buffer) Keeps
+LabelledLeavesKeep A = (s : Subject A) → BuffersAreDistinct s.net → AreKeepingRulesKept s
+    → s.duty ≡ duty.Every → (place scope : ℕ) (tag : List ℕ)
+    → IsLabelledTag s.labels place scope tag → (buffer : ℕ)
+    → IsLeaf (table_at s.net place) tag scope buffer
+    → IsSomeAnd (output_at s.net place buffer) Keeps

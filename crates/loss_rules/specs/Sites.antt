@@ -52,6 +52,21 @@ line_of (output.Relabel target line) = line
 line_of (output.Forward settings line) = line
 line_of (output.File settings line) = line
 
+-- What stands in this line of the configuration of the relay at this place, behind the places of its
+-- scope and in it: a match, an output, a server of an output.
+
+abbrev pub MatchStands : {A : Type 0} → Network A → ℕ → ℕ → ℕ × ℕ × MatchRule A → Type 0
+MatchStands net place line x = (rule_at net place x.0 x.1 ≡ Some x.2) × (x.2.line ≡ line)
+
+abbrev pub OutputStands : {A : Type 0} → Network A → ℕ → ℕ → ℕ × ℕ × ℕ × Output A → Type 0
+OutputStands net place line x = (output_in_rule net place x.0 x.1 x.2 ≡ Some x.3)
+    × (line_of x.3 ≡ line)
+
+abbrev pub ServerStands : {A : Type 0} → Network A → ℕ → ℕ → ℕ × ℕ × ℕ × Output A × Server A
+    → Type 0
+ServerStands net place line x = (output_in_rule net place x.0 x.1 x.2 ≡ Some x.3)
+    × Contains (servers_of x.3) x.4 × (x.4.line ≡ line)
+
 -- The output sends its events on to this scope.
 abbrev pub RelabelsTo : {A : Type 0} → Output A → ℕ → Type 0
 RelabelsTo (output.Relabel target line) scope = target.0 ≡ scope

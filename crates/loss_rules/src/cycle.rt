@@ -1,8 +1,7 @@
 //! The rule on relabels of reached matches, and those of them that are on a cycle.
 
 ghost use Rattle.std.specs.Prelude.{◌≡◌, [], IfOk};
-ghost use Rattle.loss_rules.specs.Breaks.{BreaksAtOutput};
-ghost use Rattle.loss_rules.specs.Everywhere.{AreInConf};
+ghost use Rattle.loss_rules.specs.Everywhere.{AreInConf, BreaksAtOutput};
 ghost use Rattle.loss_rules.specs.Rules.{IsOnNoCycle, NoRelabelCycle};
 
 use crate::answer::Place;

@@ -18,9 +18,8 @@ pub fn labelled_tags_are_safe<A: Allocator>()
     ensures { LabelledTagsAreSafe A }
 {}
 
-/// Where each output of each reached match keeps or is a relabel besides, each leaf of the way of
-/// an event with a tag of a label is of an output that keeps. This does nothing: it stands for its
-/// clause.
+/// Under the rules and the duty every, each leaf of the way of an event with a tag of a label is of
+/// an output that keeps. This does nothing: it stands for its clause.
 pub fn labelled_leaves_keep<A: Allocator>()
     ensures { LabelledLeavesKeep A }
 {}

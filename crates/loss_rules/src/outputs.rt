@@ -1,11 +1,9 @@
 //! The rules on a relay's own matches and outputs: reached matches keep, relabels are labelled.
 
-ghost use Rattle.std.specs.Prelude.{◌≡◌, ◌↔◌, ◌⊎◌, ℕ, [], IfOk, IsTrue, All, Any};
-ghost use Rattle.relay_net.specs.Outputs.{Keeps};
-ghost use Rattle.loss_rules.specs.Breaks.{BreaksAtMatch, BreaksAtOutput};
-ghost use Rattle.loss_rules.specs.Everywhere.{AreInConf};
+ghost use Rattle.std.specs.Prelude.{◌≡◌, ◌↔◌, ℕ, [], IfOk, IsTrue, All, Any};
+ghost use Rattle.loss_rules.specs.Everywhere.{AreInConf, BreaksAtMatch, BreaksAtOutput};
 ghost use Rattle.loss_rules.specs.Labels.{IsReached};
-ghost use Rattle.loss_rules.specs.Rules.{ReachedMatchesDo, DoesDuty, RelabelsAreLabelled, IsLabelledRelabel};
+ghost use Rattle.loss_rules.specs.Rules.{ReachedMatchesDo, DoesDuty, KeepsOrRelabels, RelabelsAreLabelled, IsLabelledRelabel};
 ghost use Rattle.loss_rules.specs.Sites.{RelabelsTo};
 
 use crate::answer::Place;
@@ -139,7 +137,7 @@ fn does_duty<A: Allocator>(duty: Duty, found: &MatchRule<A>) -> bool
 // Whether each of the outputs keeps, or sends events on to another scope.
 fn all_keep_or_relabel<A: Allocator>(outputs: &[Output<A>]) -> bool
     ensures { IsTrue result
-        ↔ All (λ found. Keeps found ⊎ ((scope : ℕ) × RelabelsTo found scope)) outputs.now }
+        ↔ All KeepsOrRelabels outputs.now }
 {
     for output in outputs {
         if !keeps_or_relabels(output) {
@@ -152,7 +150,7 @@ fn all_keep_or_relabel<A: Allocator>(outputs: &[Output<A>]) -> bool
 // Whether one of the outputs keeps, or sends events on to another scope.
 fn keep_or_relabel<A: Allocator>(outputs: &[Output<A>]) -> bool
     ensures { IsTrue result
-        ↔ Any (λ found. Keeps found ⊎ ((scope : ℕ) × RelabelsTo found scope)) outputs.now }
+        ↔ Any KeepsOrRelabels outputs.now }
 {
     for output in outputs {
         if keeps_or_relabels(output) {
@@ -164,7 +162,7 @@ fn keep_or_relabel<A: Allocator>(outputs: &[Output<A>]) -> bool
 
 // Whether the output keeps, or sends events on to another scope.
 fn keeps_or_relabels<A: Allocator>(output: &Output<A>) -> bool
-    ensures { IsTrue result ↔ (Keeps output.now ⊎ ((scope : ℕ) × RelabelsTo output.now scope)) }
+    ensures { IsTrue result ↔ KeepsOrRelabels output.now }
 {
     keeps(output) || is_relabel(output)
 }

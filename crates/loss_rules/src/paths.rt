@@ -2,8 +2,8 @@
 
 ghost use Rattle.std.specs.Prelude.{◌≡◌, ◌↔◌, List, [], ℕ, IfOk, IsTrue, Some};
 ghost use Rattle.std.specs.Option.{option_copied};
-ghost use Rattle.loss_rules.specs.Breaks.{BreaksAtOutput, IsFirstOfPath};
-ghost use Rattle.loss_rules.specs.Everywhere.{AreInConf};
+ghost use Rattle.loss_rules.specs.Breaks.{IsFirstOfPath};
+ghost use Rattle.loss_rules.specs.Everywhere.{AreInConf, BreaksAtOutput};
 ghost use Rattle.loss_rules.specs.Lines.{StandsBehind};
 ghost use Rattle.loss_rules.specs.Rules.{PathsAreDistinct, SharePath, buffer_path as path_of_buffer, sink_path as path_of_sink};
 

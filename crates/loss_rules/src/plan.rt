@@ -1,8 +1,7 @@
 //! The rules on a plan's own lines: clients are labelled, labels are matched, reaches cover.
 
 ghost use Rattle.std.specs.Prelude.{◌≡◌, ◌↔◌, [], IfOk, IsTrue, All, Any, IsSomeAnd, length, slice_get};
-ghost use Rattle.loss_rules.specs.Breaks.{BreaksAtClient, BreaksAtLabel};
-ghost use Rattle.loss_rules.specs.Everywhere.{AreInPlan};
+ghost use Rattle.loss_rules.specs.Everywhere.{AreInPlan, BreaksAtClient, BreaksAtLabel};
 ghost use Rattle.loss_rules.specs.Matches.{AreCovered};
 ghost use Rattle.loss_rules.specs.Rules.{ClientsAreLabelled, IsLabelledClient, LabelsAreMatched, IsMatchedLabel, FitsMatch, ReachesCover, IsCoveredLabel, IsCovered};
 

@@ -2,8 +2,7 @@
 
 ghost use Rattle.std.specs.Prelude.{◌≡◌, [], IfOk, IsSome};
 ghost use Rattle.relay_net.specs.Network.{entrance, address_of_server};
-ghost use Rattle.loss_rules.specs.Breaks.{BreaksAtServer};
-ghost use Rattle.loss_rules.specs.Everywhere.{AreInConf};
+ghost use Rattle.loss_rules.specs.Everywhere.{AreInConf, BreaksAtServer};
 ghost use Rattle.loss_rules.specs.Rules.{ServersAreSources, ForwardsAreLabelled, IsLabelledServer};
 
 use crate::answer::Place;

@@ -8,7 +8,6 @@ use Rattle.custody_steps.specs.World.{World, initial_world}
 use Rattle.custody_steps.specs.declared.fault.StepFault.{StepFault}
 use Rattle.custody_steps.specs.declared.fault.StepFault.TheVariants as refusal
 use Rattle.loss_rules.specs.Breaks.{Subject}
-use Rattle.loss_rules.specs.Rules.{AreKeepingRulesKept, EachOutputKeeps}
 use Rattle.loss_rules.specs.declared.answer.Answer.{Answer}
 use Rattle.loss_rules.specs.declared.answer.Answer.TheVariants as answer
 use Rattle.loss_rules.specs.declared.label.Duty.{Duty}
@@ -48,13 +47,6 @@ abbrev pub IsCodeOf : StepFault → List ℕ → Type 0
 IsCodeOf refusal.NoSuch code = code ≡ codes "S1"
 IsCodeOf refusal.NotAllowed code = code ≡ codes "S2"
 IsCodeOf refusal.Memory code = ⊥
-
--- Where the answer is yes, the rules hold of the plan under which nothing is lost, with what it
--- asks of each match.
-pub record IsYesEarned {A : Type 0} (plan : Subject A) (found : Answer) : Type 0 where
-  pub rules : found ≡ answer.Yes → AreKeepingRulesKept plan.net plan.labels plan.reaches
-  pub each_output : found ≡ answer.Yes → plan.duty ≡ duty.Every
-      → EachOutputKeeps plan.net plan.reaches
 
 -- The steps of the text were all taken in the network of a plan with this answer, and this is
 -- listed of what they lead to. In that world nothing is made up, whatever the answer is; where it

@@ -2,8 +2,8 @@
 //! listing is printed.
 
 ghost use Rattle.std.specs.Prelude.{◌≡◌, ◌≤◌, ◌+◌, string_bytes, IfOk, IfErr};
+ghost use Rattle.loss_rules.specs.Breaks.{IsAnswer};
 ghost use Rattle.plan_answers.specs.Networks.{answer_line, answer_status, joined_status, AreReplayed, IsAnswered, PrintsCheck, PrintsReplay};
-ghost use Rattle.plan_answers.specs.Replays.{IsYesEarned};
 ghost use Rattle.program_text.specs.Plans.{IsPlanStop};
 
 use crate::replay::{Said, replay};
@@ -84,7 +84,6 @@ fn read_checked<A: Allocator + Copy, R: CountedRead, O: Open>(
     ensures answered { IfOk result
         (λ checked. IsAnswered A (R.remaining net.old)
         (O.text_of files.now) checked.plan checked.answer) }
-    ensures earned { IfOk result (λ checked. IsYesEarned checked.plan checked.answer) }
     ensures line { IfOk result (λ checked. string_bytes checked.line ≡ answer_line checked.answer) }
     ensures stop { IfErr result (IsPlanStop A (R.remaining net.old) (O.text_of files.now)) }
     ensures calls { R.calls net.new ≤ R.calls net.old + 16777216 }
@@ -102,7 +101,7 @@ fn replay_read<A: Allocator + Copy, S: CountedRead>(
     plan: &Plan<A>,
     steps: &mut S,
 ) -> Result<Said<A>, ReadFault>
-    ensures replayed { (found : Answer) → IsYesEarned plan.now found
+    ensures replayed { (found : Answer) → IsAnswer plan.now found
         → IfOk result (λ said. AreReplayed plan.now found
         (S.remaining steps.old) said.lines.items said.status) }
     ensures calls { S.calls steps.new ≤ S.calls steps.old + 16777216 }

@@ -4,8 +4,9 @@ ghost use Rattle.std.specs.Prelude.{◌≡◌, ◌++◌, ◌↔◌, ℕ, Bool, L
 ghost use Rattle.std.specs.List.{AllZip};
 ghost use Rattle.custody_core.specs.Custody.{IsKeptAs};
 ghost use Rattle.custody_store.specs.Contents.{event_of};
+ghost use Rattle.loss_rules.specs.Breaks.{IsAnswer};
 ghost use Rattle.loss_rules.specs.declared.answer.Answer.{Answer};
-ghost use Rattle.plan_answers.specs.Replays.{fate_line, IsCodeOf, IsWorldListing, IsReplayed, IsYesEarned};
+ghost use Rattle.plan_answers.specs.Replays.{fate_line, IsCodeOf, IsWorldListing, IsReplayed};
 ghost use Rattle.hex.specs.Hex.{encode_lower};
 ghost use Rattle.program_text.specs.Lines.{line};
 
@@ -24,14 +25,14 @@ pub struct Said<A: Allocator> {
 /// Takes the steps of the text, one after another, in the plan's network before its first step, and
 /// lists what becomes of the events that they acknowledge; or which step is refused first; or which
 /// line is of no step's form. The only error is want of memory. An event is lost where it isn't
-/// kept as the plan asks. Whichever answer the plan has: where a yes means that the plan keeps the
-/// rules, nothing is lost under a yes.
+/// kept as the plan asks. Whichever answer the plan has, steps are taken; under a yes nothing is
+/// lost.
 pub fn replay<A: Allocator + Copy>(
     alloc: A,
     plan: &Plan<A>,
     text: &[u8],
 ) -> Result<Said<A>, AllocError>
-    ensures { (found : Answer) → IsYesEarned plan.now found
+    ensures { (found : Answer) → IsAnswer plan.now found
         → IfOk result (λ said. IsReplayed plan.now found text.now said.lines.items said.status) }
 {
     let steps = match Step::read_all(alloc, text) {

@@ -10,7 +10,8 @@ use Rattle.custody_core.proofs.HeldOnward.{held_onward}
 use Rattle.custody_core.proofs.Leads.{labelled, lead_on}
 use Rattle.custody_core.proofs.Made.{sourced}
 use Rattle.custody_core.proofs.StepsMore.{steps_more}
-use Rattle.loss_rules.proofs.Ways.{labelled_safe, labelled_kept}
+use Rattle.loss_rules.proofs.Keeping.{keeping_rules_in, each_output_keeps_in}
+use Rattle.loss_rules.proofs.Ways.{labelled_kept}
 use Rattle.step_lines.proofs.Places.{split_at, take_next}
 use Rattle.custody_core.proofs.runs.run.Goals as goal
 
@@ -55,13 +56,17 @@ pub returns-clause-labelled_nothing_is_lost : goal.returns-clause-labelled_nothi
 returns-clause-labelled_nothing_is_lost g c =
     let net = c.args.net.now in
     let taken = subst (Steps c.args.net.now initial_world c.args.steps.now) (sym c.collect.ensures.same) (rw (take_all c.loop-place.place c.args.steps.now c.loop-place-test.false) at c.loop-place.invariant.1) in
-    λ labels reaches distinct rules. nothing_lost net (labelled net labels reaches labelled_safe distinct rules) (lead_on net labels reaches labelled_safe distinct rules) c.args.steps.now _ taken
+    λ s is distinct rules.
+    let kept = keeping_rules_in s net is rules in
+    nothing_lost net (labelled net s.labels s.reaches distinct kept) (lead_on net s.labels s.reaches distinct kept) c.args.steps.now _ taken
 
 pub returns-clause-held_onward : goal.returns-clause-held_onward
 returns-clause-held_onward g c =
     let net = c.args.net.now in
     let taken = subst (Steps c.args.net.now initial_world c.args.steps.now) (sym c.collect.ensures.same) (rw (take_all c.loop-place.place c.args.steps.now c.loop-place-test.false) at c.loop-place.invariant.1) in
-    λ labels reaches distinct rules. held_onward net (labelled net labels reaches labelled_safe distinct rules) (lead_on net labels reaches labelled_safe distinct rules) c.args.steps.now _ taken
+    λ s is distinct rules.
+    let kept = keeping_rules_in s net is rules in
+    held_onward net (labelled net s.labels s.reaches distinct kept) (lead_on net s.labels s.reaches distinct kept) c.args.steps.now _ taken
 
 pub returns-clause-nothing_is_made_up : goal.returns-clause-nothing_is_made_up
 returns-clause-nothing_is_made_up g c =
@@ -72,5 +77,7 @@ pub returns-clause-each_branch_keeps : goal.returns-clause-each_branch_keeps
 returns-clause-each_branch_keeps g c =
     let net = c.args.net.now in
     let taken = subst (Steps c.args.net.now initial_world c.args.steps.now) (sym c.collect.ensures.same) (rw (take_all c.loop-place.place c.args.steps.now c.loop-place-test.false) at c.loop-place.invariant.1) in
-    λ labels reaches distinct rules each. each_branch net (labelled net labels reaches labelled_safe distinct rules) (lead_on net labels reaches labelled_safe distinct rules)
-    (λ at tag is buffer leaf. labelled_kept net labels reaches distinct rules each at.relay at.scope tag is buffer leaf) c.args.steps.now _ taken
+    λ s is distinct rules every.
+    let kept = keeping_rules_in s net is rules in
+    each_branch net (labelled net s.labels s.reaches distinct kept) (lead_on net s.labels s.reaches distinct kept)
+    (λ at tag labelled buffer leaf. labelled_kept net s.labels s.reaches distinct kept (each_output_keeps_in s net is rules every) at.relay at.scope tag labelled buffer leaf) c.args.steps.now _ taken

@@ -3,7 +3,7 @@ use Rattle.std.proofs.lemmas.Option.{slice_get-get_or}
 use Rattle.std.proofs.lemmas.Result.{IfOk-weaker}
 use Rattle.loss_rules.proofs.Lines.{one_more, all_of, one_adds, lines_are, kept_are, no_plan_lines}
 use Rattle.loss_rules.proofs.Plans.{client_adds}
-use Rattle.loss_rules.specs.Breaks.{BreaksAtClient}
+use Rattle.loss_rules.specs.Everywhere.{BreaksAtClient}
 use Rattle.loss_rules.specs.Rules.{IsLabelledClient}
 use Rattle.loss_rules.proofs.plan.clients_are_labelled.Goals as goal
 

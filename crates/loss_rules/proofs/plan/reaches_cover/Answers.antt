@@ -3,7 +3,7 @@ use Rattle.std.proofs.lemmas.Option.{slice_get_read}
 use Rattle.std.proofs.lemmas.Result.{IfOk-weaker}
 use Rattle.loss_rules.proofs.Lines.{one_more, all_of, one_adds, lines_are, kept_are, no_plan_lines}
 use Rattle.loss_rules.proofs.Plans.{label_adds}
-use Rattle.loss_rules.specs.Breaks.{BreaksAtLabel}
+use Rattle.loss_rules.specs.Everywhere.{BreaksAtLabel}
 use Rattle.loss_rules.specs.Rules.{IsCoveredLabel}
 use Rattle.loss_rules.proofs.plan.reaches_cover.Goals as goal
 

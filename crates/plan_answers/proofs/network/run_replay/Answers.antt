@@ -18,7 +18,7 @@ returns-in-Ok-replay_read-clause-printed g c =
     let checked = c.in-Ok.checked in
     let said = c.in-Ok-replay_read.said in
     let line = c.as_bytes.ensures.value ∙ c.in-Ok.ensures.line in
-    let replayed = subst (λ (l : List ℕ). AreReplayed checked.plan checked.answer steps l said.status) (sym c.deref.ensures.value) (c.in-Ok-replay_read.ensures.replayed checked.answer c.in-Ok.ensures.earned) in
+    let replayed = subst (λ (l : List ℕ). AreReplayed checked.plan checked.answer steps l said.status) (sym c.deref.ensures.value) (c.in-Ok-replay_read.ensures.replayed checked.answer c.in-Ok.ensures.answered.answer_is) in
     let printed = subst (λ (m : Status). IsPrinted (out c.put_all.new.out) (out c.put_last.new.out) c.deref.result.now m c.put_last.result) c.joined.ensures c.put_last.ensures in
     whole_replay g.row.A.Denot (g.R.CountedRead.remaining c.args.net.now) (g.O.Open.text_of c.args.files.now) steps
     (out c.args.out.now) (out c.put_all.new.out) (out c.put_last.new.out)
