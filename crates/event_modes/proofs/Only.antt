@@ -31,12 +31,8 @@ fault_one bytes f g p q = let e = one_answer bytes 0 (scan.Bad f) (scan.Bad g) p
 
 -- what is open has no fault
 pub open_faultless : (bytes : List ℕ) (f : MsgFault) → IsOpen bytes → IsFaulty f bytes → ⊥
-open_faultless bytes f o p = p.closed (record {
-  more = p.rest ++ o.more;
-  some = omega (arith, o.some, length-append p.rest o.more);
-  ends = subst IsItemWithin (ap (λ (z : List ℕ). z ++ o.more) p.whole ∙ append_assoc p.shortest p.rest o.more) o.ends;
-  unended = p.unended;
-})
+open_faultless bytes f o p =
+    p.closed (p.rest ++ o.more) (subst IsItemWithin (ap (λ (z : List ℕ). z ++ o.more) p.whole ∙ append_assoc p.shortest p.rest o.more) o.ends)
 
 -- ---- lists
 

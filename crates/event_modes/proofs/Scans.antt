@@ -31,12 +31,8 @@ pub not_faulty : (fault : MsgFault) (bytes : List ℕ) → Begins IsItemWithin b
 not_faulty fault bytes b f =
     elim (parts b.front f.shortest b.back f.rest (sym b.whole ∙ f.whole)) [
       | inl p ↦ (f.before b.front p.1 p.0 p.2).unended b.is
-      | inr p ↦ longer p.0 p.1
+      | inr p ↦ f.closed p.0 (subst IsItemWithin p.1 b.is)
     ]
-  where
-    longer : (more : List ℕ) → b.front ≡ f.shortest ++ more → ⊥
-    longer [] e = f.unended (subst IsItemWithin (e ∙ append-nil f.shortest) b.is)
-    longer (x ∷ more) e = f.closed (record { more = x ∷ more; some = omega arith; ends = subst IsItemWithin e b.is; unended = f.unended })
 
 pub always_ends : (bytes : List ℕ) (r : Scan) → Begins IsItemWithin bytes → IsScanned bytes 0 r → ((end : ℕ) → r ≡ scan.End end → ⊥) → ⊥
 always_ends bytes (scan.End end) b s none = none end refl

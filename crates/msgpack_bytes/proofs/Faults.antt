@@ -5,7 +5,7 @@ use Rattle.msgpack_bytes.specs.declared.format.Shape.{Shape}
 use Rattle.msgpack_bytes.specs.declared.format.Shape.TheVariants.{Fixed, Sized, Holds, Counted, Never}
 use Rattle.msgpack_bytes.specs.Format.{items_in, shape_of}
 use Rattle.msgpack_bytes.specs.Item.{Row, Item}
-use Rattle.msgpack_bytes.specs.Fault.{Awaits, IsOfContainer}
+use Rattle.msgpack_bytes.specs.Stops.{Awaits, IsOfContainer}
 use Rattle.msgpack_bytes.specs.Run.{Opens, Stop, Reserved, Deep, front_of, behind_first, content, number, then_, many, none, behind, flat, run}
 use Rattle.msgpack_bytes.proofs.Fronts.{content_never_opens, wrong_never}
 use Rattle.msgpack_bytes.proofs.Runs.{Answer, after_reserved, after_deep, behind_reserved, behind_deep}

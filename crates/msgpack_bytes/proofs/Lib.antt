@@ -7,6 +7,7 @@ pub mod Runs
 pub mod Items
 pub mod Opened
 pub mod Faults
+pub mod Mended
 pub mod Stack
 pub mod StepFacts
 pub mod Scanned

@@ -156,3 +156,8 @@ beyond_closed bytes b o =
 
 pub beyond_unended : (bytes : List ℕ) → Beyond bytes → IsItemWithin bytes → ⊥
 beyond_unended bytes b t = let f = sym b.missing ∙ item_all deepest bytes t.item in cc
+
+-- what is neither an item nor open goes on to none
+pub unlimited : (bytes more : List ℕ) → (IsItemWithin bytes → ⊥) → (IsOpen bytes → ⊥) → IsItemWithin (bytes ++ more) → ⊥
+unlimited bytes [] unended closed i = unended (let same = append-nil bytes in rw same at i)
+unlimited bytes (byte ∷ more) unended closed i = closed (record { more = byte ∷ more; some = omega arith; ends = i; unended = unended })

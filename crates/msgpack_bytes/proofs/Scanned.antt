@@ -1,24 +1,20 @@
 -- What a scan answers is right, and no other answer is.
-use Rattle.std.proofs.Common.{ℕ, ◌≡◌, ◌-◌, List, [], ◌∷◌, ◌++◌, length, drop, slice_range, refl, ap, sym, ◌∙◌, Ok, Err, arith, ◌⊎◌, inl, inr, append_assoc, append-nil, length-drop}
+use Rattle.std.proofs.Common.{ℕ, ◌≡◌, ◌-◌, List, [], ◌∷◌, ◌++◌, length, drop, replicate, slice_range, refl, ap, sym, ◌∙◌, Ok, Err, arith, ◌⊎◌, inl, inr, append_assoc, append-nil, length-drop}
 use Rattle.msgpack_bytes.specs.declared.answers.Scan.{Scan}
 use Rattle.msgpack_bytes.specs.declared.answers.Scan.TheVariants.{End, Need, Bad}
 use Rattle.msgpack_bytes.specs.declared.answers.MsgFault.{MsgFault}
 use Rattle.msgpack_bytes.specs.declared.answers.MsgFault.TheVariants as fault
-use Rattle.msgpack_bytes.specs.Item.{deepest, IsItemWithin, IsOpen}
-use Rattle.msgpack_bytes.specs.Fault.{Awaits, EndsReserved, EndsTooDeep, EndsIn, IsFaulty}
+use Rattle.msgpack_bytes.specs.Item.{Item, deepest, IsItemWithin, IsOpen}
+use Rattle.msgpack_bytes.specs.Fault.{EndsIn, IsFaulty}
+use Rattle.msgpack_bytes.specs.Stops.{Awaits, EndsReserved, EndsTooDeep}
 use Rattle.msgpack_bytes.specs.Answers.{IsScanned}
-use Rattle.msgpack_bytes.specs.Run.{Stop, Reserved, Deep, run}
+use Rattle.msgpack_bytes.specs.Run.{Reserved, Deep, run}
 use Rattle.msgpack_bytes.proofs.Slices.{slice_then}
-use Rattle.msgpack_bytes.proofs.Items.{item_read, item_all}
-use Rattle.msgpack_bytes.proofs.Opened.{Within, Shortest, missing_open, open_missing, before_within, one_shorter, open_before, beyond_closed, beyond_unended}
+use Rattle.msgpack_bytes.proofs.Runs.{run_steady}
+use Rattle.msgpack_bytes.proofs.Items.{item_read, item_all, all_item}
+use Rattle.msgpack_bytes.proofs.Opened.{Within, Shortest, missing_open, open_missing, before_within, one_shorter, open_before, beyond_closed, beyond_unended, unlimited}
 use Rattle.msgpack_bytes.proofs.Faults.{reserved_stops, deep_stops, reserved_fault, deep_fault}
-
--- what ends reserved or too deep stops the reading
-pub reserved_run : (bytes : List ℕ) → EndsReserved bytes → run deepest bytes ≡ Err Reserved
-reserved_run bytes e = rw e.whole (reserved_stops e.left deepest e.front [] e.begins)
-
-pub deep_run : (bytes : List ℕ) → EndsTooDeep bytes → run deepest bytes ≡ Err Deep
-deep_run bytes e = rw e.whole (deep_stops deepest e.byte e.front [] e.begins e.container)
+use Rattle.msgpack_bytes.proofs.Mended.{reserved_never, deep_deeper}
 
 -- a fault that the last byte brings is at the last byte
 at_last : (front begun rest : List ℕ) (last byte : ℕ) → front ++ last ∷ [] ≡ begun ++ byte ∷ rest → ((back : List ℕ) × (front ≡ begun ++ byte ∷ back)) ⊎ (front ++ last ∷ [] ≡ begun ++ byte ∷ [])
@@ -45,8 +41,11 @@ deep_last front last w e =
       | inr s ↦ record { front = t.front; byte = t.byte; begins = begins; container = t.is.1; whole = s }
     ]
 
-stopped_unended : (bytes : List ℕ) (stop : Stop) → run deepest bytes ≡ Err stop → IsItemWithin bytes → ⊥
-stopped_unended bytes stop e t = let f = sym e ∙ item_all deepest bytes t.item in cc
+reserved_unmended : (bytes more : List ℕ) → run deepest bytes ≡ Err Reserved → Item deepest (bytes ++ more) → ⊥
+reserved_unmended bytes more e i = let f = sym ((run_steady deepest).reserved bytes more e) ∙ item_all deepest (bytes ++ more) i in cc
+
+deep_unmended : (bytes more : List ℕ) → run deepest bytes ≡ Err Deep → Item deepest (bytes ++ more) → ⊥
+deep_unmended bytes more e i = let f = sym ((run_steady deepest).deep bytes more e) ∙ item_all deepest (bytes ++ more) i in cc
 
 -- the faults, where a list that is open goes on by one byte
 pub reserved_right : (bytes front rest : List ℕ) (last : ℕ) → Within front → bytes ≡ front ++ last ∷ rest → run deepest (front ++ last ∷ []) ≡ Err Reserved → IsFaulty fault.Reserved bytes
@@ -54,10 +53,9 @@ reserved_right bytes front rest last w e f = record {
   shortest = front ++ last ∷ [];
   rest = rest;
   whole = e ∙ sym (append_assoc front (last ∷ []) rest);
-  unended = stopped_unended (front ++ last ∷ []) Reserved f;
-  closed = λ o. (let m = open_missing (front ++ last ∷ []) o in let g = sym m.missing ∙ f in cc);
+  closed = λ more t. reserved_unmended (front ++ last ∷ []) more f t.item;
   before = open_before front last w;
-  ends = reserved_last front last w f;
+  ends = reserved_never (front ++ last ∷ []) (reserved_last front last w f);
 }
 
 pub deep_right : (bytes front rest : List ℕ) (last : ℕ) → Within front → bytes ≡ front ++ last ∷ rest → run deepest (front ++ last ∷ []) ≡ Err Deep → IsFaulty fault.TooDeep bytes
@@ -65,10 +63,9 @@ deep_right bytes front rest last w e f = record {
   shortest = front ++ last ∷ [];
   rest = rest;
   whole = e ∙ sym (append_assoc front (last ∷ []) rest);
-  unended = stopped_unended (front ++ last ∷ []) Deep f;
-  closed = λ o. (let m = open_missing (front ++ last ∷ []) o in let g = sym m.missing ∙ f in cc);
+  closed = λ more t. deep_unmended (front ++ last ∷ []) more f t.item;
   before = open_before front last w;
-  ends = deep_last front last w f;
+  ends = (λ more. deep_unmended (front ++ last ∷ []) more f, deep_deeper (front ++ last ∷ []) (deep_last front last w f));
 }
 
 pub long_right : (bytes : List ℕ) → Shortest bytes → IsFaulty fault.TooLong bytes
@@ -76,10 +73,9 @@ long_right bytes s = record {
   shortest = s.long;
   rest = s.rest;
   whole = s.whole;
-  unended = beyond_unended s.long s.beyond;
-  closed = beyond_closed s.long s.beyond;
+  closed = λ more. unlimited s.long more (beyond_unended s.long s.beyond) (beyond_closed s.long s.beyond);
   before = s.before;
-  ends = (λ e. (let g = sym s.beyond.missing ∙ reserved_run s.long e in cc), λ e. (let g = sym s.beyond.missing ∙ deep_run s.long e in cc));
+  ends = (replicate s.beyond.n 0, all_item deepest (s.long ++ replicate s.beyond.n 0) ((run_steady deepest).zeros s.long s.beyond.n s.beyond.missing));
 }
 
 -- of two fronts of one list, one goes on from the other
@@ -103,16 +99,15 @@ one_end a b x y i j e =
     let k = sym h ∙ g in
     cc
 
-item_shortest : (fault : MsgFault) (bytes item back : List ℕ) → (f : IsFaulty fault bytes) → IsItemWithin item → item ≡ f.shortest ++ back → ⊥
-item_shortest fault bytes item [] f i e = f.unended (let same : item ≡ f.shortest = e ∙ append-nil f.shortest in rw same at i)
-item_shortest fault bytes item (byte ∷ back) f i e =
-    f.closed (record { more = byte ∷ back; some = omega arith; ends = rw e at i; unended = f.unended })
+-- the shortest beginning that has no continuation is not open
+not_open : {fault : MsgFault} {bytes : List ℕ} (f : IsFaulty fault bytes) → IsOpen f.shortest → ⊥
+not_open f o = f.closed o.more o.ends
 
 -- what begins with an item within the limits has no fault
 item_faultless : (fault : MsgFault) (item rest bytes : List ℕ) → IsItemWithin item → bytes ≡ item ++ rest → IsFaulty fault bytes → ⊥
 item_faultless fault item rest bytes i e f =
     elim (compare_fronts f.shortest item f.rest rest (sym f.whole ∙ e)) [
-      | inl t ↦ item_shortest fault bytes item t.0 f i t.1
+      | inl t ↦ f.closed t.0 (rw t.1 at i)
       | inr t ↦ (let o = f.before item t.1 t.0 t.2 in o.unended i)
     ]
 
@@ -120,29 +115,29 @@ open_faultless : (fault : MsgFault) (bytes : List ℕ) → IsOpen bytes → IsFa
 open_faultless fault bytes o f =
     let w = open_missing bytes o in
     let there : Within (f.shortest ++ f.rest) = rw f.whole at w in
-    f.closed (missing_open f.shortest (before_within f.shortest f.rest there))
+    not_open f (missing_open f.shortest (before_within f.shortest f.rest there))
 
 -- one list has one fault
 same_ends : (f g : MsgFault) (bytes : List ℕ) → EndsIn f bytes → EndsIn g bytes → f ≡ g
 same_ends fault.Reserved fault.Reserved bytes a b = refl
-same_ends fault.Reserved fault.TooDeep bytes a b = absurd (let e = sym (reserved_run bytes a) ∙ deep_run bytes b in cc)
-same_ends fault.Reserved fault.TooLong bytes a b = absurd (b.0 a)
-same_ends fault.TooDeep fault.Reserved bytes a b = absurd (let e = sym (reserved_run bytes b) ∙ deep_run bytes a in cc)
+same_ends fault.Reserved fault.TooDeep bytes a b = absurd (a b.1.0 b.1.1 b.1.2)
+same_ends fault.Reserved fault.TooLong bytes a b = absurd (a deepest b.0 b.1)
+same_ends fault.TooDeep fault.Reserved bytes a b = absurd (b a.1.0 a.1.1 a.1.2)
 same_ends fault.TooDeep fault.TooDeep bytes a b = refl
-same_ends fault.TooDeep fault.TooLong bytes a b = absurd (b.1 a)
-same_ends fault.TooLong fault.Reserved bytes a b = absurd (a.0 b)
-same_ends fault.TooLong fault.TooDeep bytes a b = absurd (a.1 b)
+same_ends fault.TooDeep fault.TooLong bytes a b = absurd (a.0 b.0 b.1)
+same_ends fault.TooLong fault.Reserved bytes a b = absurd (b deepest a.0 a.1)
+same_ends fault.TooLong fault.TooDeep bytes a b = absurd (b.0 a.0 a.1)
 same_ends fault.TooLong fault.TooLong bytes a b = refl
 
 longer_none : (f g : MsgFault) (bytes : List ℕ) (a : IsFaulty f bytes) (b : IsFaulty g bytes) (back : List ℕ) → b.shortest ≡ a.shortest ++ back → f ≡ g
 longer_none f g bytes a b [] e = let same : b.shortest ≡ a.shortest = e ∙ append-nil a.shortest in same_ends f g a.shortest a.ends (rw same at b.ends)
-longer_none f g bytes a b (byte ∷ back) e = absurd (a.closed (b.before a.shortest back byte e))
+longer_none f g bytes a b (byte ∷ back) e = absurd (not_open a (b.before a.shortest back byte e))
 
 pub one_fault : (f g : MsgFault) (bytes : List ℕ) → IsFaulty f bytes → IsFaulty g bytes → f ≡ g
 one_fault f g bytes a b =
     elim (compare_fronts a.shortest b.shortest a.rest b.rest (sym a.whole ∙ b.whole)) [
       | inl t ↦ longer_none f g bytes a b t.0 t.1
-      | inr t ↦ absurd (b.closed (a.before b.shortest t.1 t.0 t.2))
+      | inr t ↦ absurd (not_open b (a.before b.shortest t.1 t.0 t.2))
     ]
 
 item_closed : (item rest bytes : List ℕ) → IsItemWithin item → bytes ≡ item ++ rest → IsOpen bytes → ⊥

@@ -286,7 +286,6 @@ faulty_more fault bytes more f = record {
   shortest = f.shortest;
   rest = f.rest ++ more;
   whole = ap (λ (xs : List ℕ). xs ++ more) f.whole ∙ append_assoc f.shortest f.rest more;
-  unended = f.unended;
   closed = f.closed;
   before = f.before;
   ends = f.ends;

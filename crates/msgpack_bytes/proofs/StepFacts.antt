@@ -6,7 +6,7 @@ use Rattle.msgpack_bytes.specs.declared.format.Shape.TheVariants.{Fixed, Sized, 
 use Rattle.msgpack_bytes.specs.declared.format.ScanStep.{ScanStep}
 use Rattle.msgpack_bytes.specs.declared.format.ScanStep.TheVariants as step
 use Rattle.msgpack_bytes.specs.Format.{items_in, shape_of}
-use Rattle.msgpack_bytes.specs.Fault.{IsOfContainer}
+use Rattle.msgpack_bytes.specs.Stops.{IsOfContainer}
 use Rattle.msgpack_bytes.specs.Run.{Whole, Opens, Lacks, Missing, front_of, behind_first, content, counted, number, none, behind, flat, run}
 use Rattle.msgpack_bytes.specs.Steps.{scalar_step, container_step, step_by, step_of}
 use Rattle.msgpack_bytes.proofs.Slices.{less, not_less, less_true}

@@ -1,72 +1,25 @@
 -- Why bytes have no continuation to an item within the limits.
-use Rattle.std.specs.Prelude.{ℕ, zero, suc, ◌≡◌, ◌<◌, ◌⊎◌, List, [], ◌∷◌, ◌++◌, codes}
+use Rattle.std.specs.Prelude.{ℕ, ◌≡◌, List, ◌∷◌, ◌++◌, codes}
 use Rattle.msgpack_bytes.specs.declared.answers.MsgFault.{MsgFault}
 use Rattle.msgpack_bytes.specs.declared.answers.MsgFault.TheVariants.{Reserved, TooDeep, TooLong}
-use Rattle.msgpack_bytes.specs.declared.format.Container.{Container}
-use Rattle.msgpack_bytes.specs.declared.format.Shape.{Shape}
-use Rattle.msgpack_bytes.specs.declared.format.Shape.TheVariants.{Fixed, Sized, Holds, Counted, Never}
-use Rattle.msgpack_bytes.specs.Format.{items_in, shape_of}
-use Rattle.msgpack_bytes.specs.Item.{IsContainerHeader, Row, Item, deepest, IsItemWithin, IsOpen}
+use Rattle.msgpack_bytes.specs.Item.{Item, deepest, IsItemWithin, IsOpen}
 
--- the bytes of a container so far: its header, fewer whole items than it has, and a part of the
--- next
-pub record IsWithin (part rest : List ℕ → Type 0) (bytes : List ℕ) : Type 0 where
-  pub container : Container
-  pub n : ℕ
-  pub k : ℕ
-  pub header : List ℕ
-  pub before : List ℕ
-  pub behind : List ℕ
-  pub counted : IsContainerHeader container n header
-  pub fewer : k < items_in container n
-  pub parts : Row part k before
-  pub next : rest behind
-  pub whole : bytes ≡ header ++ (before ++ behind)
-
--- after these bytes of an item of this depth, the next byte begins an item in which containers may
--- nest `left` deep
-unfoldable pub Awaits : ℕ → ℕ → List ℕ → Type 0
-Awaits left zero bytes = (bytes ≡ []) × (left ≡ 0)
-Awaits left (suc depth) bytes = ((bytes ≡ []) × (left ≡ suc depth))
-    ⊎ IsWithin (Item depth) (Awaits left depth) bytes
-
--- first bytes of arrays and maps
-abbrev pub IsOfContainer : Shape → Type 0
-IsOfContainer (Fixed kind content) = ⊥
-IsOfContainer (Sized kind width extra) = ⊥
-IsOfContainer (Holds container count) = Unit {0}
-IsOfContainer (Counted container width) = Unit {0}
-IsOfContainer Never = ⊥
-
--- the last byte is c1, where an item begins
-pub record EndsReserved (bytes : List ℕ) : Type 0 where
-  pub left : ℕ
-  pub front : List ℕ
-  pub begins : Awaits left deepest front
-  pub whole : bytes ≡ front ++ 0xc1 ∷ []
-
--- the last byte begins an array or a map, where no container may stand any more
-pub record EndsTooDeep (bytes : List ℕ) : Type 0 where
-  pub front : List ℕ
-  pub byte : ℕ
-  pub begins : Awaits 0 deepest front
-  pub container : IsOfContainer (shape_of byte)
-  pub whole : bytes ≡ front ++ byte ∷ []
-
--- what is wrong with bytes that end where the fault shows: any other fault is the length
+-- what is wrong with bytes that no bytes make an item within the limits: too long, if some make one
+-- that is longer; too deep, if some make one that nests deeper; and else no item begins so at all,
+-- since a c1 stands in the place of one
 abbrev pub EndsIn : MsgFault → List ℕ → Type 0
-EndsIn Reserved bytes = EndsReserved bytes
-EndsIn TooDeep bytes = EndsTooDeep bytes
-EndsIn TooLong bytes = (EndsReserved bytes → ⊥) × (EndsTooDeep bytes → ⊥)
+EndsIn TooLong bytes = (more : List ℕ) × Item deepest (bytes ++ more)
+EndsIn TooDeep bytes = ((more : List ℕ) → Item deepest (bytes ++ more) → ⊥)
+    × ((depth : ℕ) × (more : List ℕ) × Item depth (bytes ++ more))
+EndsIn Reserved bytes = (depth : ℕ) (more : List ℕ) → Item depth (bytes ++ more) → ⊥
 
 -- the shortest beginning of the bytes that has no continuation, and what is wrong with it:
--- it is neither an item within the limits nor open, and each shorter beginning is open
+-- no bytes make it an item within the limits, and each shorter beginning is open
 pub record IsFaulty (fault : MsgFault) (bytes : List ℕ) : Type 0 where
   pub shortest : List ℕ
   pub rest : List ℕ
   pub whole : bytes ≡ shortest ++ rest
-  pub unended : IsItemWithin shortest → ⊥
-  pub closed : IsOpen shortest → ⊥
+  pub closed : (more : List ℕ) → IsItemWithin (shortest ++ more) → ⊥
   pub before : (front more : List ℕ) (byte : ℕ) → shortest ≡ front ++ byte ∷ more → IsOpen front
   pub ends : EndsIn fault shortest
 

@@ -4,6 +4,7 @@ pub mod Kinds
 pub mod Containers
 pub mod Names
 pub mod Fault
+pub mod Stops
 pub mod Answers
 pub mod Run
 pub mod Reads

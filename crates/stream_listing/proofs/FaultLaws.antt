@@ -33,8 +33,7 @@ longer_open front (m ∷ more) h none = record { more = m ∷ more; some = omega
 faulty_lost : (why : MsgFault) (bytes : List ℕ) → IsFaulty why bytes → IsLost bytes
 faulty_lost why bytes h = record {
   begins_none = λ more text.
-      h.closed (longer_open h.shortest (h.rest ++ more)
-      (subst IsItemWithin (ap (λ l. l ++ more) h.whole ∙ append_assoc h.shortest h.rest more) text) h.unended);
+      h.closed (h.rest ++ more) (subst IsItemWithin (ap (λ l. l ++ more) h.whole ∙ append_assoc h.shortest h.rest more) text);
   has_none = λ front back e text. not_faulty why bytes (record { front = front; back = back; is = text; whole = e }) h;
 }
 

@@ -6,7 +6,7 @@ use Rattle.std.specs.List.{AllByRecursion, AllZip, concat}
 use Rattle.msgpack_bytes.specs.Containers.{Pair}
 use Rattle.msgpack_bytes.specs.Item.{IsItemWithin, IsOpen}
 use Rattle.msgpack_bytes.specs.Kinds.{IsNil}
-use Rattle.msgpack_bytes.specs.Fault.{IsFaulty}
+use Rattle.msgpack_bytes.specs.Fault.{EndsIn, IsFaulty}
 use Rattle.msgpack_bytes.specs.Names.{HasNoKey, IsLastValue}
 use Rattle.msgpack_bytes.specs.declared.answers.MsgFault.{MsgFault}
 use Rattle.msgpack_bytes.specs.declared.answers.MsgFault.TheVariants.{Reserved, TooDeep, TooLong}
@@ -44,19 +44,13 @@ module _ (bytes : List ℕ) (lost : IsLost bytes) (none : (why : MsgFault) → I
   -- the shortest beginning that is not open
   closed_at : (front rest : List ℕ) → bytes ≡ front ++ rest → (IsOpen front → ⊥) → AreOpen front → ⊥
   closed_at front rest whole closed before =
-      let unended : IsItemWithin front → ⊥ = lost.has_none front rest whole in
-      none TooLong (record {
-        shortest = front;
-        rest = rest;
-        whole = whole;
-        unended = unended;
-        closed = closed;
-        before = before;
-        ends = (
-          λ ends. none Reserved (record { shortest = front; rest = rest; whole = whole; unended = unended; closed = closed; before = before; ends = ends }),
-          λ ends. none TooDeep (record { shortest = front; rest = rest; whole = whole; unended = unended; closed = closed; before = before; ends = ends }),
-        );
-      })
+      faulty Reserved (λ depth more item. faulty TooDeep (λ longer long. faulty TooLong (longer, long), (depth, more, item)))
+    where
+      ended : (more : List ℕ) → IsItemWithin (front ++ more) → ⊥
+      ended more text = closed (longer_open front more text (lost.has_none front rest whole))
+
+      faulty : (why : MsgFault) → EndsIn why front → ⊥
+      faulty why ends = none why (record { shortest = front; rest = rest; whole = whole; closed = ended; before = before; ends = ends })
 
   look_on : (front rest : List ℕ) → bytes ≡ front ++ rest → AreOpen front → ⊥
   look_on front [] whole before =

@@ -1,4 +1,5 @@
-use Rattle.msgpack_bytes.proofs.Lawful.{deeper, parts, parts_within}
+use Rattle.msgpack_bytes.proofs.Mended.{deeper}
+use Rattle.msgpack_bytes.proofs.Lawful.{parts, parts_within}
 use Rattle.msgpack_bytes.proofs.laws.parts.Goals as goal
 
 pub returns-clause-deeper : goal.returns-clause-deeper
