@@ -4,10 +4,12 @@ use Rattle.std.proofs.lemmas.Grind.{common_steps}
 use Rattle.msgpack_bytes.specs.declared.format.Shape.{Shape}
 use Rattle.msgpack_bytes.specs.declared.format.Shape.TheVariants.{Fixed, Sized, Holds, Counted, Never}
 use Rattle.msgpack_bytes.specs.Format.{items_in, shape_of}
-use Rattle.msgpack_bytes.specs.Item.{Row, Item}
+use Rattle.msgpack_bytes.specs.Item.{Item}
+use Rattle.msgpack_bytes.specs.Parts.{Row}
 use Rattle.msgpack_bytes.specs.Stops.{Awaits, IsOfContainer}
 use Rattle.msgpack_bytes.specs.Run.{Opens, Stop, Reserved, Deep, front_of, behind_first, content, number, then_, many, none, behind, flat, run}
 use Rattle.msgpack_bytes.proofs.Fronts.{content_never_opens, wrong_never}
+use Rattle.msgpack_bytes.proofs.Headers.{counts_container}
 use Rattle.msgpack_bytes.proofs.Runs.{Answer, after_reserved, after_deep, behind_reserved, behind_deep}
 use Rattle.msgpack_bytes.proofs.Items.{front_container, row_passed, run_container, item_read, read_item, opens_header, Before, glue}
 
@@ -148,7 +150,7 @@ inside_suc depth first m stop bytes inner at_fault e s deeper =
       byte = t.byte;
       front = header ++ (s.before ++ t.front);
       rest = t.rest;
-      begins = inr (record { container = h.container; n = h.n; k = s.k; header = header; before = s.before; behind = t.front; counted = h.counts; fewer = few; parts = s.parts; next = t.begins; whole = refl });
+      begins = inr (record { container = h.container; n = h.n; k = s.k; header = header; before = s.before; behind = t.front; counted = counts_container h.container h.n first h.count_bytes h.counts; fewer = few; parts = s.parts; next = t.begins; whole = refl });
       is = t.is;
       whole = ap (λ (xs : List ℕ). first ∷ xs) (placed bytes h.count_bytes inner s.before s.behind t.front (t.byte ∷ t.rest) h.whole s.whole t.whole);
     }

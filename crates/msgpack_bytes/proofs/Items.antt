@@ -7,11 +7,15 @@ use Rattle.msgpack_bytes.specs.declared.format.Container.{Container}
 use Rattle.msgpack_bytes.specs.declared.format.Shape.{Shape}
 use Rattle.msgpack_bytes.specs.declared.format.Shape.TheVariants.{Fixed, Sized, Holds, Counted, Never}
 use Rattle.msgpack_bytes.specs.Format.{big_endian, items_in, shape_of}
-use Rattle.msgpack_bytes.specs.Item.{Sizes, Counts, IsScalarHeader, IsContainerHeader, IsScalar, Row, Item}
+use Rattle.msgpack_bytes.specs.Sizes.{Sizes, Counts}
+use Rattle.msgpack_bytes.specs.Item.{IsScalarHeader, IsContainerHeader, IsScalar, Item}
+use Rattle.msgpack_bytes.specs.Parts.{Row}
 use Rattle.msgpack_bytes.specs.Run.{Whole, Opens, front_of, behind_first, content, number, many, none, flat, run}
 use Rattle.msgpack_bytes.proofs.Reading.{number_front, number_take}
 use Rattle.msgpack_bytes.proofs.Fronts.{content_there, content_whole, content_never_opens, counted_there, counted_opens, counted_never_whole}
 use Rattle.msgpack_bytes.proofs.Runs.{Answer, run_steady, after_ok, behind_ok}
+use Rattle.msgpack_bytes.proofs.Headers.{scalar_sizes, sizes_scalar, container_counts, counts_container}
+use Rattle.msgpack_bytes.proofs.Contained.{has_row, row_has}
 
 -- a length and the content that it states are a whole front
 scalar_whole : (s : Shape) (kind : Kind) (length_bytes body : List ℕ) → Sizes s kind (length body) length_bytes → behind_first s (length_bytes ++ body) ≡ Whole []
@@ -51,13 +55,13 @@ unfolding front_of
 front_scalar bytes s =
     elim s.spelled.header as (λ header. IsScalarHeader s.kind (length s.content) header → bytes ≡ header ++ s.content → front_of bytes ≡ Whole []) [
       | [] ↦ λ h e. absurd h
-      | first ∷ length_bytes ↦ λ h e. rw e (scalar_whole (shape_of first) s.kind length_bytes s.content h)
+      | first ∷ length_bytes ↦ λ h e. rw e (scalar_whole (shape_of first) s.kind length_bytes s.content (scalar_sizes s.kind (length s.content) first length_bytes h))
     ] s.spelled.sized s.spelled.whole
 
 pub front_container : (container : Container) (n : ℕ) (header inner : List ℕ) → IsContainerHeader container n header → front_of (header ++ inner) ≡ Opens (items_in container n) inner
 unfolding front_of
 front_container container n [] inner h = absurd h
-front_container container n (first ∷ count_bytes) inner h = container_opens (shape_of first) container n count_bytes inner h
+front_container container n (first ∷ count_bytes) inner h = container_opens (shape_of first) container n count_bytes inner (container_counts container n first count_bytes h)
 
 -- parts that are read are passed over
 pub row_passed : (part : List ℕ → Type 0) (f : List ℕ → Answer) → ((bytes more : List ℕ) → part bytes → f (bytes ++ more) ≡ Ok more) → (k j : ℕ) (bytes more : List ℕ) → Row part k bytes → many f (k + j) (bytes ++ more) ≡ many f j more
@@ -81,7 +85,8 @@ pub item_read : (depth : ℕ) (bytes more : List ℕ) → Item depth bytes → r
 unfolding Item
 item_read zero bytes more s = (run_steady 0).stays bytes [] more (run_scalar 0 bytes (front_scalar bytes s))
 item_read (suc depth) bytes more (inl s) = (run_steady (suc depth)).stays bytes [] more (run_scalar (suc depth) bytes (front_scalar bytes s))
-item_read (suc depth) bytes more (inr c) =
+item_read (suc depth) bytes more (inr t) =
+    let c = has_row (Item depth) bytes t in
     let n : ℕ = items_in c.container c.n in
     let f = front_container c.container c.n c.header (c.inner ++ more) c.counted in
     let r = row_passed (Item depth) (run depth) (item_read depth) n 0 c.inner more c.parts in
@@ -176,7 +181,7 @@ rows_before part f is (suc n) bytes rest e =
 pub scalar_before : (first : ℕ) (bytes rest : List ℕ) → Scalar (shape_of first) bytes rest → Before IsScalar (first ∷ bytes) rest
 scalar_before first bytes rest s = record {
   front = first ∷ (s.length_bytes ++ s.body);
-  is = record { kind = s.kind; content = s.body; spelled = record { header = first ∷ s.length_bytes; sized = s.sized; whole = refl } };
+  is = record { kind = s.kind; content = s.body; spelled = record { header = first ∷ s.length_bytes; sized = sizes_scalar s.kind (length s.body) first s.length_bytes s.sized; whole = refl } };
   whole = ap (λ (xs : List ℕ). first ∷ xs) s.whole;
 }
 
@@ -195,7 +200,7 @@ read_item (suc depth) (first ∷ bytes) rest e =
           let r = rows_before (Item depth) (run depth) (read_item depth) m t.1 rest inside in
           record {
             front = first ∷ (h.count_bytes ++ r.front);
-            is = inr (record { container = h.container; n = h.n; header = first ∷ h.count_bytes; inner = r.front; counted = h.counts; parts = r.is; whole = refl });
+            is = inr (row_has (Item depth) (first ∷ (h.count_bytes ++ r.front)) (record { container = h.container; n = h.n; header = first ∷ h.count_bytes; inner = r.front; counted = counts_container h.container h.n first h.count_bytes h.counts; parts = r.is; whole = refl }));
             whole = ap (λ (xs : List ℕ). first ∷ xs) (glue bytes h.count_bytes t.1 r.front rest h.whole r.whole);
           })
     ]

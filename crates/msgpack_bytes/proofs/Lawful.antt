@@ -2,7 +2,8 @@
 use Rattle.std.proofs.Common.{ℕ, zero, suc, ◌≡◌, ◌<◌, ◌≤◌, true, false, nat_lt, List, [], ◌∷◌, ◌++◌, length, replicate, refl, ap, sym, ◌∙◌, Ok, Err, arith, inl, inr, append-nil, append_assoc, length-append}
 use Rattle.std.proofs.lemmas.List.{length-replicate}
 use Rattle.msgpack_bytes.specs.Format.{items_in}
-use Rattle.msgpack_bytes.specs.Item.{Row, Item, longest, deepest, IsItemWithin, IsOpen}
+use Rattle.msgpack_bytes.specs.Item.{Item, longest, deepest, IsItemWithin, IsOpen}
+use Rattle.msgpack_bytes.specs.Parts.{Row}
 use Rattle.msgpack_bytes.specs.Laws.{IsPrefixFree, HasOneFront, HasParts, HasPartsWithin, IsItemDeeper, IsOpenForZeros, IsLongOnly, IsItemRead, IsOpenRead, IsReservedRead, IsDeepRead}
 use Rattle.msgpack_bytes.specs.Run.{Missing, Reserved, Deep, run}
 use Rattle.msgpack_bytes.proofs.Slices.{less, not_less}

@@ -4,6 +4,8 @@ pub mod Reading
 pub mod Sound
 pub mod Fronts
 pub mod Runs
+pub mod Headers
+pub mod Contained
 pub mod Items
 pub mod Opened
 pub mod Faults

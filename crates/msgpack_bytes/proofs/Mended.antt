@@ -4,12 +4,14 @@ use Rattle.std.proofs.Common.{ℕ, zero, suc, ◌≡◌, ◌+◌, ◌-◌, ◌<�
 use Rattle.msgpack_bytes.specs.declared.format.Shape.{Shape}
 use Rattle.msgpack_bytes.specs.declared.format.Shape.TheVariants.{Fixed, Sized, Holds, Counted, Never}
 use Rattle.msgpack_bytes.specs.Format.{items_in, shape_of}
-use Rattle.msgpack_bytes.specs.Item.{Row, Item, deepest}
+use Rattle.msgpack_bytes.specs.Item.{Item, deepest}
+use Rattle.msgpack_bytes.specs.Parts.{Row}
 use Rattle.msgpack_bytes.specs.Laws.{IsItemDeeper}
 use Rattle.msgpack_bytes.specs.Run.{Opens, Lacks, Missing, Reserved, front_of, behind_first, number, many, behind, run}
 use Rattle.msgpack_bytes.specs.Stops.{Awaits, IsOfContainer, EndsReserved, EndsTooDeep}
 use Rattle.msgpack_bytes.proofs.Runs.{Answer, run_nought, run_steady, many_noughts}
 use Rattle.msgpack_bytes.proofs.Items.{front_container, row_passed, run_container, item_read, item_all, all_item}
+use Rattle.msgpack_bytes.proofs.Contained.{has_row, row_has}
 use Rattle.msgpack_bytes.proofs.Stack.{run_empty}
 use Rattle.msgpack_bytes.proofs.Faults.{reserved_stops}
 
@@ -21,8 +23,17 @@ pub deeper : IsItemDeeper
 unfolding Item
 deeper zero bytes i = inl i
 deeper (suc depth) bytes (inl s) = inl s
-deeper (suc depth) bytes (inr c) =
-    inr (record { container = c.container; n = c.n; header = c.header; inner = c.inner; counted = c.counted; parts = row_deeper (Item depth) (Item (suc depth)) (deeper depth) (items_in c.container c.n) c.inner c.parts; whole = c.whole })
+deeper (suc depth) bytes (inr t) =
+    let c = has_row (Item depth) bytes t in
+    inr (row_has (Item (suc depth)) bytes (record {
+      container = c.container;
+      n = c.n;
+      header = c.header;
+      inner = c.inner;
+      counted = c.counted;
+      parts = row_deeper (Item depth) (Item (suc depth)) (deeper depth) (items_in c.container c.n) c.inner c.parts;
+      whole = c.whole;
+    }))
 
 -- an item of which some bytes are read may stand in a list that nests deeper
 awaits_deeper : (left depth : ℕ) (front : List ℕ) → Awaits left depth front → Awaits (suc left) (suc depth) front

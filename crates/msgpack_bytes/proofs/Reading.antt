@@ -7,9 +7,11 @@ use Rattle.msgpack_bytes.specs.declared.format.Container.{Container}
 use Rattle.msgpack_bytes.specs.declared.format.Shape.{Shape}
 use Rattle.msgpack_bytes.specs.declared.format.Shape.TheVariants.{Fixed, Sized, Holds, Counted, Never}
 use Rattle.msgpack_bytes.specs.Format.{big_endian, shape_of}
-use Rattle.msgpack_bytes.specs.Item.{Sizes, Counts, IsScalarHeader, IsContainerHeader, Spells}
+use Rattle.msgpack_bytes.specs.Sizes.{Sizes, Counts}
+use Rattle.msgpack_bytes.specs.Item.{IsScalarHeader, IsContainerHeader, Spells}
 use Rattle.msgpack_bytes.specs.Run.{number}
 use Rattle.msgpack_bytes.specs.Reads.{scalar_head, container_head, head_by, head_at}
+use Rattle.msgpack_bytes.proofs.Headers.{scalar_sizes, container_counts}
 use Rattle.msgpack_bytes.proofs.Slices.{less_false, slice_middle}
 
 -- a number whose bytes are all there
@@ -64,7 +66,7 @@ found_by kind bytes (first ∷ size) content back at h e =
       rest = size ++ content;
       start = start;
       end = start + length content;
-      head = rw e (scalar_by (shape_of first) kind first (at + 1) bytes size content back h);
+      head = rw e (scalar_by (shape_of first) kind first (at + 1) bytes size content back (scalar_sizes kind (length content) first size h));
       begins = refl;
       above = omega arith;
       inside = refl;
@@ -97,7 +99,7 @@ unfolding head_at
 found_container container n at next bytes [] back h e f = absurd h
 found_container container n at next bytes (first ∷ size) back h e f =
     let same : next ≡ at + 1 + length size = omega arith in
-    rw (e, same) (container_by (shape_of first) container first (at + 1) n bytes size back h)
+    rw (e, same) (container_by (shape_of first) container first (at + 1) n bytes size back (container_counts container n first size h))
 
 pub number_take : (width : ℕ) (bytes : List ℕ) → width ≤ length bytes → big_endian (take width bytes) ≡ number width bytes
 number_take zero bytes h = refl

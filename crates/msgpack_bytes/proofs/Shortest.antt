@@ -1,5 +1,5 @@
 -- What is written says what was asked, and nothing shorter does.
-use Rattle.std.proofs.Common.{ℕ, pos, ◌-ℤ◌, zero, suc, ◌≡◌, ◌+◌, ◌*◌, ◌^◌, ◌<◌, ◌≤◌, Bool, true, false, cond, nat_lt, List, [], ◌∷◌, ◌++◌, length, refl, ap, sym, ◌∙◌, arith, length-append}
+use Rattle.std.proofs.Common.{ℕ, pos, ◌-ℤ◌, zero, suc, ◌≡◌, ◌+◌, ◌*◌, ◌^◌, ◌<◌, ◌≤◌, Bool, true, false, cond, nat_lt, List, [], ◌∷◌, ◌++◌, length, refl, ap, sym, ◌∙◌, arith, inl, inr, length-append}
 use Rattle.std.proofs.lemmas.Grind.{common_steps}
 use Rattle.std.proofs.lemmas.Int.{ints}
 use Rattle.std.specs.Int.{bytes_high_first}
@@ -10,7 +10,9 @@ use Rattle.msgpack_bytes.specs.declared.format.Container.TheVariants.{Array, Map
 use Rattle.msgpack_bytes.specs.declared.format.Shape.{Shape}
 use Rattle.msgpack_bytes.specs.declared.format.Shape.TheVariants.{Fixed, Sized, Holds, Counted, Never}
 use Rattle.msgpack_bytes.specs.Format.{big_endian, shape_of}
-use Rattle.msgpack_bytes.specs.Item.{Sizes, Counts, IsScalarHeader, IsContainerHeader, Spells}
+use Rattle.msgpack_bytes.specs.Sizes.{Sizes, Counts}
+use Rattle.msgpack_bytes.specs.Item.{IsScalarHeader, IsContainerHeader, Spells}
+use Rattle.msgpack_bytes.proofs.Headers.{scalar_sizes, container_counts}
 use Rattle.msgpack_bytes.specs.Kinds.{IsInteger}
 use Rattle.msgpack_bytes.specs.Kinds.{Positive, Negative, Unsigned, Signed}
 use Rattle.msgpack_bytes.specs.Spelling.{uint_of, str_header_of, bin_header_of, array_header_of, map_header_of, IsBytes, IsUintSpelled, IsStrSpelled, IsBinSpelled, IsArraySpelled, IsMapSpelled, IsBoolSpelled}
@@ -82,7 +84,7 @@ str_by Never first n length_bytes q h e = absurd e
 
 str_least : (header : List ℕ) (n : ℕ) → IsBytes header → IsScalarHeader kind.Str n header → length (str_header_of n) ≤ length header
 str_least [] n h e = absurd e
-str_least (first ∷ length_bytes) n h e = let l = str_by (shape_of first) first n length_bytes refl (bytes_behind first length_bytes h) e in omega arith
+str_least (first ∷ length_bytes) n h e = let l = str_by (shape_of first) first n length_bytes refl (bytes_behind first length_bytes h) (scalar_sizes kind.Str n first length_bytes e) in omega arith
 
 bin_by : (s : Shape) (first n : ℕ) (length_bytes : List ℕ) → shape_of first ≡ s → IsBytes length_bytes → Sizes s kind.Bin n length_bytes → length (bin_header_of n) ≤ suc (length length_bytes)
 bin_by (Fixed k c) first n length_bytes q h e = absurd (let none = fixed_bin first c (q ∙ ap (λ (x : Kind). Fixed x c) e.0) in omega arith)
@@ -99,7 +101,7 @@ bin_by Never first n length_bytes q h e = absurd e
 
 bin_least : (header : List ℕ) (n : ℕ) → IsBytes header → IsScalarHeader kind.Bin n header → length (bin_header_of n) ≤ length header
 bin_least [] n h e = absurd e
-bin_least (first ∷ length_bytes) n h e = let l = bin_by (shape_of first) first n length_bytes refl (bytes_behind first length_bytes h) e in omega arith
+bin_least (first ∷ length_bytes) n h e = let l = bin_by (shape_of first) first n length_bytes refl (bytes_behind first length_bytes h) (scalar_sizes kind.Bin n first length_bytes e) in omega arith
 
 container_by : (s : Shape) (container : Container) (first n : ℕ) (count_bytes : List ℕ) → shape_of first ≡ s → IsBytes count_bytes → Counts s container n count_bytes → length (header_of container n) ≤ suc (length count_bytes)
 container_by (Fixed k c) container first n count_bytes q h e = absurd e
@@ -119,7 +121,7 @@ container_by Never container first n count_bytes q h e = absurd e
 
 container_least : (container : Container) (header : List ℕ) (n : ℕ) → IsBytes header → IsContainerHeader container n header → length (header_of container n) ≤ length header
 container_least container [] n h e = absurd e
-container_least container (first ∷ count_bytes) n h e = let l = container_by (shape_of first) container first n count_bytes refl (bytes_behind first count_bytes h) e in omega arith
+container_least container (first ∷ count_bytes) n h e = let l = container_by (shape_of first) container first n count_bytes refl (bytes_behind first count_bytes h) (container_counts container n first count_bytes e) in omega arith
 
 -- a scalar is as long as its header and its content
 spelled_least : (k : Kind) (bytes content : List ℕ) (least : ℕ) → Spells k bytes content → IsBytes bytes → ((header : List ℕ) → IsBytes header → IsScalarHeader k (length content) header → least ≤ length header) → least + length content ≤ length bytes
@@ -138,34 +140,34 @@ str_header : (n : ℕ) → n < 2 ^ 32 → IsScalarHeader kind.Str n (str_header_
 unfolding shape_of
 str_header n h =
     let Is : List ℕ → Type 0 = IsScalarHeader kind.Str n in
-    either Is (nat_lt n 32) _ _ (λ t. rw (fixstr n (less n 32 t)) (refl, refl, refl))
-    (λ _. either Is (nat_lt n (2 ^ 8)) _ _ (λ t. (refl, refl, (let v = value_one n (less n (2 ^ 8) t) in omega arith)))
-    (λ _. either Is (nat_lt n (2 ^ 16)) _ _ (λ t. (refl, refl, (let v = value_two n (less n (2 ^ 16) t) in omega arith)))
-    (λ _. (refl, refl, (let v = value_four n h in omega arith)))))
+    either Is (nat_lt n 32) _ _ (λ t. inl (fixstr n (less n 32 t), refl))
+    (λ _. either Is (nat_lt n (2 ^ 8)) _ _ (λ t. inr (0, refl, (let v = value_one n (less n (2 ^ 8) t) in omega arith)))
+    (λ _. either Is (nat_lt n (2 ^ 16)) _ _ (λ t. inr (0, refl, (let v = value_two n (less n (2 ^ 16) t) in omega arith)))
+    (λ _. inr (0, refl, (let v = value_four n h in omega arith)))))
 
 bin_header : (n : ℕ) → n < 2 ^ 32 → IsScalarHeader kind.Bin n (bin_header_of n)
 unfolding shape_of
 bin_header n h =
     let Is : List ℕ → Type 0 = IsScalarHeader kind.Bin n in
-    either Is (nat_lt n (2 ^ 8)) _ _ (λ t. (refl, refl, (let v = value_one n (less n (2 ^ 8) t) in omega arith)))
-    (λ _. either Is (nat_lt n (2 ^ 16)) _ _ (λ t. (refl, refl, (let v = value_two n (less n (2 ^ 16) t) in omega arith)))
-    (λ _. (refl, refl, (let v = value_four n h in omega arith))))
+    either Is (nat_lt n (2 ^ 8)) _ _ (λ t. inr (0, refl, (let v = value_one n (less n (2 ^ 8) t) in omega arith)))
+    (λ _. either Is (nat_lt n (2 ^ 16)) _ _ (λ t. inr (0, refl, (let v = value_two n (less n (2 ^ 16) t) in omega arith)))
+    (λ _. inr (0, refl, (let v = value_four n h in omega arith))))
 
 array_header : (n : ℕ) → n < 2 ^ 32 → IsContainerHeader Array n (array_header_of n)
 unfolding shape_of
 array_header n h =
     let Is : List ℕ → Type 0 = IsContainerHeader Array n in
-    either Is (nat_lt n 16) _ _ (λ t. rw (fixarray n (less n 16 t)) (refl, refl, refl))
-    (λ _. either Is (nat_lt n (2 ^ 16)) _ _ (λ t. (refl, refl, sym (value_two n (less n (2 ^ 16) t))))
-    (λ _. (refl, refl, sym (value_four n h))))
+    either Is (nat_lt n 16) _ _ (λ t. inl (fixarray n (less n 16 t), refl))
+    (λ _. either Is (nat_lt n (2 ^ 16)) _ _ (λ t. inr (refl, sym (value_two n (less n (2 ^ 16) t))))
+    (λ _. inr (refl, sym (value_four n h))))
 
 map_header : (n : ℕ) → n < 2 ^ 32 → IsContainerHeader Map n (map_header_of n)
 unfolding shape_of
 map_header n h =
     let Is : List ℕ → Type 0 = IsContainerHeader Map n in
-    either Is (nat_lt n 16) _ _ (λ t. rw (fixmap n (less n 16 t)) (refl, refl, refl))
-    (λ _. either Is (nat_lt n (2 ^ 16)) _ _ (λ t. (refl, refl, sym (value_two n (less n (2 ^ 16) t))))
-    (λ _. (refl, refl, sym (value_four n h))))
+    either Is (nat_lt n 16) _ _ (λ t. inl (fixmap n (less n 16 t), refl))
+    (λ _. either Is (nat_lt n (2 ^ 16)) _ _ (λ t. inr (refl, sym (value_two n (less n (2 ^ 16) t))))
+    (λ _. inr (refl, sym (value_four n h))))
 
 pub str_spelled : IsStrSpelled
 str_spelled content h = (
@@ -227,7 +229,7 @@ fixed_by k Never first n length_bytes q e none = absurd e
 
 header_fixed : (k : Kind) (n : ℕ) (header : List ℕ) → IsScalarHeader k n header → ((first w extra : ℕ) → shape_of first ≡ Sized k w extra → 1 ≤ 0) → (byte : ℕ) × (shape_of byte ≡ Fixed k n)
 header_fixed k n [] e none = absurd e
-header_fixed k n (first ∷ length_bytes) e none = fixed_by k (shape_of first) first n length_bytes refl e none
+header_fixed k n (first ∷ length_bytes) e none = fixed_by k (shape_of first) first n length_bytes refl (scalar_sizes k n first length_bytes e) none
 
 -- a number of so many bytes, of which n is one
 sized_uint : (k : Kind) (bytes content : List ℕ) (n : ℕ) → Spells k bytes content → IsBytes content → n ≡ big_endian content
@@ -248,10 +250,10 @@ unfolding shape_of
 uint_said n h =
     let Is : List ℕ → Type 0 = λ bytes. IsInteger bytes (pos n) in
     either Is (nat_lt n 0x80) _ _ (λ t. Positive n (less n 0x80 t) refl refl)
-    (λ _. either Is (nat_lt n (2 ^ 8)) _ _ (λ t. Unsigned (bytes_high_first 1 n) (record { header = 0xcc ∷ []; sized = (refl, refl, refl); whole = refl }) (ap pos (sym (value_one n (less n (2 ^ 8) t)))))
-    (λ _. either Is (nat_lt n (2 ^ 16)) _ _ (λ t. Unsigned (bytes_high_first 2 n) (record { header = 0xcd ∷ []; sized = (refl, refl, refl); whole = refl }) (ap pos (sym (value_two n (less n (2 ^ 16) t)))))
-    (λ _. either Is (nat_lt n (2 ^ 32)) _ _ (λ t. Unsigned (bytes_high_first 4 n) (record { header = 0xce ∷ []; sized = (refl, refl, refl); whole = refl }) (ap pos (sym (value_four n (less n (2 ^ 32) t)))))
-    (λ _. Unsigned (bytes_high_first 8 n) (record { header = 0xcf ∷ []; sized = (refl, refl, refl); whole = refl }) (ap pos (sym (value_eight n h)))))))
+    (λ _. either Is (nat_lt n (2 ^ 8)) _ _ (λ t. Unsigned (bytes_high_first 1 n) (record { header = 0xcc ∷ []; sized = inl (refl, refl); whole = refl }) (ap pos (sym (value_one n (less n (2 ^ 8) t)))))
+    (λ _. either Is (nat_lt n (2 ^ 16)) _ _ (λ t. Unsigned (bytes_high_first 2 n) (record { header = 0xcd ∷ []; sized = inl (refl, refl); whole = refl }) (ap pos (sym (value_two n (less n (2 ^ 16) t)))))
+    (λ _. either Is (nat_lt n (2 ^ 32)) _ _ (λ t. Unsigned (bytes_high_first 4 n) (record { header = 0xce ∷ []; sized = inl (refl, refl); whole = refl }) (ap pos (sym (value_four n (less n (2 ^ 32) t)))))
+    (λ _. Unsigned (bytes_high_first 8 n) (record { header = 0xcf ∷ []; sized = inl (refl, refl); whole = refl }) (ap pos (sym (value_eight n h)))))))
 
 bytes_back : (front back : List ℕ) → IsBytes (front ++ back) → IsBytes back
 bytes_back [] back h = h

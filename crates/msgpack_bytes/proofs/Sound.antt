@@ -30,7 +30,7 @@ unfolding shape_of
 negative_shape byte h = grind (arith, common_steps)
 
 spells_byte : (byte : ℕ) (k : Kind) → shape_of byte ≡ Fixed k 0 → Spells k (byte ∷ []) []
-spells_byte byte k e = record { header = byte ∷ []; sized = rw e (refl, refl, refl); whole = refl }
+spells_byte byte k e = record { header = byte ∷ []; sized = inl (e, refl); whole = refl }
 
 -- an item of one byte is found by that byte
 found_byte : (byte at : ℕ) (k : Kind) (bytes front back : List ℕ) → shape_of byte ≡ Fixed k 0 → front ≡ byte ∷ [] → drop at bytes ≡ front ++ back → (start : ℕ) × (end : ℕ) × (head_at bytes at ≡ Some (scalar_head k byte bytes (record { start = start; end = end })))
@@ -220,7 +220,7 @@ module _ (bytes : List ℕ) (at first : ℕ) (lt : at < length bytes) (e : drop 
       → IsHead bytes at (Some (scalar_head k first bytes (record { start = at + 1; end = at + 1 + size })))
   fixed_right k size q fit h =
       let d = dropped in
-      let s = spelled k bytes at first 0 size (at + 1) (at + 1 + size) e (omega arith) (omega arith) refl lt (rw q (refl, refl, refl)) in
+      let s = spelled k bytes at first 0 size (at + 1) (at + 1 + size) e (omega arith) (omega arith) refl lt (inl (q, refl)) in
       scalar_right k bytes at first (at + 1) (at + 1 + size) (omega arith) (omega arith) (omega arith) s e (fixed_fit k first size (at + 1 + size - (at + 1)) fit (omega arith))
 
   sized_right : (k : Kind) (width extra : ℕ) → shape_of first ≡ Sized k width extra → IsSizedFit k extra → width + (number width rest + extra) ≤ length rest
@@ -231,7 +231,7 @@ module _ (bytes : List ℕ) (at first : ℕ) (lt : at < length bytes) (e : drop 
       let start : ℕ = at + 1 + width in
       let size = length-take-le width rest (omega arith) in
       let same = number_take width rest (omega arith) in
-      let s = spelled k bytes at first width n start (start + n) e h refl refl lt (rw q (refl, size, rw same refl)) in
+      let s = spelled k bytes at first width n start (start + n) e h refl refl lt (inr (extra, q ∙ ap (λ (w : ℕ). Sized k w extra) (sym size), ap (λ (m : ℕ). m + extra) (sym same))) in
       scalar_right k bytes at first start (start + n) (omega arith) (omega arith) (omega arith) s e (sized_fit k first extra (number width rest) (start + n - start) fit (omega arith))
 
   counted_right : (container : Container) (w n : ℕ) → w ≤ length rest → IsContainerHeader container n (first ∷ take w rest) → IsHead bytes at (Some (container_head container (record { count = n; next = at + 1 + w })))
@@ -258,11 +258,11 @@ module _ (bytes : List ℕ) (at first : ℕ) (lt : at < length bytes) (e : drop 
       ] refl
   by_shape (Holds container count) q fit =
       let same : at + 1 ≡ at + 1 + 0 = omega arith in
-      rw same (counted_right container 0 count (omega arith) (rw q (refl, refl, refl)))
+      rw same (counted_right container 0 count (omega arith) (inl (q, refl)))
   by_shape (Counted container width) q fit =
       elim (nat_lt (length rest) width) as (λ b. nat_lt (length rest) width ≡ b → IsHead bytes at (some_container container (cond b None (Some (record { count = number width rest; next = at + 1 + width }))))) [
         | true ↦ λ t. none_right bytes at (computed ∙ rw (q, t) refl)
-        | false ↦ λ t. (let h = not_less (length rest) width t in counted_right container width (number width rest) h (rw q (refl, length-take-le width rest h, sym (number_take width rest h))))
+        | false ↦ λ t. (let h = not_less (length rest) width t in counted_right container width (number width rest) h (inr (q ∙ ap (λ (w : ℕ). Counted container w) (sym (length-take-le width rest h)), sym (number_take width rest h))))
       ] refl
   by_shape Never q fit = none_right bytes at (computed ∙ rw q refl)
 

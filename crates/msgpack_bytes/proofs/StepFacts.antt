@@ -7,6 +7,7 @@ use Rattle.msgpack_bytes.specs.declared.format.ScanStep.{ScanStep}
 use Rattle.msgpack_bytes.specs.declared.format.ScanStep.TheVariants as step
 use Rattle.msgpack_bytes.specs.Format.{items_in, shape_of}
 use Rattle.msgpack_bytes.specs.Stops.{IsOfContainer}
+use Rattle.msgpack_bytes.proofs.Headers.{counts_container}
 use Rattle.msgpack_bytes.specs.Run.{Whole, Opens, Lacks, Missing, front_of, behind_first, content, counted, number, none, behind, flat, run}
 use Rattle.msgpack_bytes.specs.Steps.{scalar_step, container_step, step_by, step_of}
 use Rattle.msgpack_bytes.proofs.Slices.{less, not_less, less_true}
@@ -123,7 +124,7 @@ opening_front [] back size items w = absurd (let a = w.some in let b = w.there i
 opening_front (first ∷ rest) back size items w =
     let h = opens_header (shape_of first) items rest (drop size (first ∷ rest)) w.front in
     let same = front_is (first ∷ rest) (first ∷ h.count_bytes) size w.there (ap (λ (xs : List ℕ). first ∷ xs) h.whole) in
-    rw same (front_container h.container h.n (first ∷ h.count_bytes) back h.counts ∙ ap (λ (m : ℕ). Opens m back) (sym h.items))
+    rw same (front_container h.container h.n (first ∷ h.count_bytes) back (counts_container h.container h.n first h.count_bytes h.counts) ∙ ap (λ (m : ℕ). Opens m back) (sym h.items))
 
 -- how these are read
 pub run_whole : (depth : ℕ) (bytes rest : List ℕ) → front_of bytes ≡ Whole rest → run depth bytes ≡ Ok rest

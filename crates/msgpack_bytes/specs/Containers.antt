@@ -2,12 +2,13 @@
 -- family", "map format family").
 use Rattle.std.specs.Prelude.{ℕ, ◌≡◌, List, [], ◌∷◌, ◌++◌, length}
 use Rattle.std.specs.List.{AllByRecursion, concat, flat_map}
-use Rattle.msgpack_bytes.specs.Item.{Item}
+use Rattle.msgpack_bytes.specs.declared.format.Container.TheVariants as container
+use Rattle.msgpack_bytes.specs.Item.{Item, IsContainer}
 use Rattle.msgpack_bytes.specs.Kinds.{IsArrayHeader, IsMapHeader}
 
 -- an item that stands in another has one less of the 64 containers to nest in
-pub record IsPart (bytes : List ℕ) : Type 0 where
-  pub item : Item 63 bytes
+abbrev pub IsPart : List ℕ → Type 0
+IsPart bytes = Item 63 bytes
 
 -- an array of these elements, each of which is such an item: its header, in any spelling, and the
 -- elements one after another
@@ -47,7 +48,7 @@ pub record IsMapOf (IsElement : List ℕ → Type 0) (pairs : List Pair) (bytes 
 
 -- an array of these items
 abbrev pub IsArray : List (List ℕ) → List ℕ → Type 0
-IsArray = IsArrayOf IsPart
+IsArray items bytes = IsContainer (Item 63) container.Array (length items) items bytes
 
 -- both are items
 abbrev pub IsPair : Pair → Type 0
@@ -55,4 +56,4 @@ IsPair = IsPairOf IsPart
 
 -- a map of these pairs in this order
 abbrev pub IsMap : List Pair → List ℕ → Type 0
-IsMap = IsMapOf IsPart
+IsMap pairs bytes = IsContainer (Item 63) container.Map (length pairs) (pair_items pairs) bytes

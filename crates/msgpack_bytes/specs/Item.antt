@@ -1,40 +1,26 @@
 -- Items: whole lists of bytes, as the MessagePack specification has them.
 use Rattle.std.specs.Prelude.{ℕ, zero, suc, ◌≡◌, ◌+◌, ◌<◌, ◌≤◌, ◌⊎◌, List, [], ◌∷◌, ◌++◌, length}
+use Rattle.std.specs.List.{AllByRecursion, concat}
 use Rattle.msgpack_bytes.specs.declared.format.Kind.{Kind}
 use Rattle.msgpack_bytes.specs.declared.format.Container.{Container}
-use Rattle.msgpack_bytes.specs.declared.format.Shape.{Shape}
-use Rattle.msgpack_bytes.specs.declared.format.Shape.TheVariants.{Fixed, Sized, Holds, Counted, Never}
+use Rattle.msgpack_bytes.specs.declared.format.Shape.TheVariants.{Fixed, Sized, Holds, Counted}
 use Rattle.msgpack_bytes.specs.Format.{big_endian, items_in, shape_of}
-
--- behind a first byte of this shape stands the length of a content of this kind, which has n bytes
-abbrev pub Sizes : Shape → Kind → ℕ → List ℕ → Type 0
-Sizes (Fixed kind content) k n length_bytes = (kind ≡ k) × (length_bytes ≡ []) × (n ≡ content)
-Sizes (Sized kind width extra) k n length_bytes = (kind ≡ k) × (length length_bytes ≡ width)
-    × (n ≡ big_endian length_bytes + extra)
-Sizes (Holds container count) k n length_bytes = ⊥
-Sizes (Counted container width) k n length_bytes = ⊥
-Sizes Never k n length_bytes = ⊥
-
--- behind a first byte of this shape stands the count of such a container, which has n entries
-abbrev pub Counts : Shape → Container → ℕ → List ℕ → Type 0
-Counts (Fixed kind content) c n count_bytes = ⊥
-Counts (Sized kind width extra) c n count_bytes = ⊥
-Counts (Holds container count) c n count_bytes = (container ≡ c) × (count_bytes ≡ []) × (n ≡ count)
-Counts (Counted container width) c n count_bytes = (container ≡ c) × (length count_bytes ≡ width)
-    × (n ≡ big_endian count_bytes)
-Counts Never c n count_bytes = ⊥
 
 -- the header of a scalar of this kind with n bytes of content: a first byte, and the length if
 -- there is one
 abbrev pub IsScalarHeader : Kind → ℕ → List ℕ → Type 0
 IsScalarHeader kind n [] = ⊥
-IsScalarHeader kind n (first ∷ length_bytes) = Sizes (shape_of first) kind n length_bytes
+IsScalarHeader kind n (first ∷ length_bytes) =
+    ((shape_of first ≡ Fixed kind n) × (length_bytes ≡ []))
+    ⊎ ((extra : ℕ) × (shape_of first ≡ Sized kind (length length_bytes) extra)
+    × (n ≡ big_endian length_bytes + extra))
 
 -- the header of such a container with n entries: a first byte, and the count if there is one
 abbrev pub IsContainerHeader : Container → ℕ → List ℕ → Type 0
 IsContainerHeader container n [] = ⊥
 IsContainerHeader container n (first ∷ count_bytes) =
-    Counts (shape_of first) container n count_bytes
+    ((shape_of first ≡ Holds container n) × (count_bytes ≡ []))
+    ⊎ ((shape_of first ≡ Counted container (length count_bytes)) × (n ≡ big_endian count_bytes))
 
 -- a whole scalar of this kind: its header, and a content of the stated length
 pub record Spells (kind : Kind) (bytes content : List ℕ) : Type 0 where
@@ -48,27 +34,23 @@ pub record IsScalar (bytes : List ℕ) : Type 0 where
   pub content : List ℕ
   pub spelled : Spells kind bytes content
 
--- n parts, one after another
-abbrev pub Row : (List ℕ → Type 0) → ℕ → List ℕ → Type 0
-Row part zero bytes = bytes ≡ []
-Row part (suc n) bytes = (front : List ℕ) × (back : List ℕ) × part front × Row part n back
-    × (bytes ≡ front ++ back)
-
--- a whole container: its header, and as many parts as it holds
-pub record IsContainer (part : List ℕ → Type 0) (bytes : List ℕ) : Type 0 where
-  pub container : Container
-  pub n : ℕ
+-- a whole container of n entries with these parts: its header, in any spelling, and the parts one
+-- after another
+pub record IsContainer (part : List ℕ → Type 0) (container : Container) (n : ℕ)
+    (items : List (List ℕ)) (bytes : List ℕ) : Type 0 where
   pub header : List ℕ
-  pub inner : List ℕ
   pub counted : IsContainerHeader container n header
-  pub parts : Row part (items_in container n) inner
-  pub whole : bytes ≡ header ++ inner
+  pub all : length items ≡ items_in container n
+  pub each : AllByRecursion part items
+  pub whole : bytes ≡ header ++ concat items
 
 -- these bytes are one whole item, in which containers nest at most so deep:
 -- a scalar, or a container whose items nest one less deep; an empty container is one deep
 unfoldable pub Item : ℕ → List ℕ → Type 0
 Item zero bytes = IsScalar bytes
-Item (suc depth) bytes = IsScalar bytes ⊎ IsContainer (Item depth) bytes
+Item (suc depth) bytes = IsScalar bytes
+    ⊎ ((container : Container) × (n : ℕ) × (items : List (List ℕ))
+    × IsContainer (Item depth) container n items bytes)
 
 -- the greatest length of an item, in bytes
 abbrev pub longest : ℕ

@@ -23,7 +23,7 @@ IsBin bytes content = Spells kind.Bin bytes content
 
 -- a str or a bin
 abbrev pub IsText : List ℕ → List ℕ → Type 0
-IsText bytes content = IsStr bytes content ⊎ IsBin bytes content
+IsText bytes content = Spells kind.Str bytes content ⊎ Spells kind.Bin bytes content
 
 -- "ext format family": the type is the byte before the content, here as it stands, from 00 to ff
 abbrev pub IsExt : ℕ → List ℕ → List ℕ → Type 0

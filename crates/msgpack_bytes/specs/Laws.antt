@@ -3,7 +3,8 @@ use Rattle.std.specs.Prelude.{ℕ, suc, ◌≡◌, ◌+◌, ◌<◌, ◌≤◌, 
 use Rattle.msgpack_bytes.specs.declared.answers.MsgFault.TheVariants.{TooLong}
 use Rattle.msgpack_bytes.specs.declared.format.Container.{Container}
 use Rattle.msgpack_bytes.specs.Format.{items_in}
-use Rattle.msgpack_bytes.specs.Item.{IsContainerHeader, Row, Item, longest, deepest, IsItemWithin, IsOpen}
+use Rattle.msgpack_bytes.specs.Item.{IsContainerHeader, Item, longest, deepest, IsItemWithin, IsOpen}
+use Rattle.msgpack_bytes.specs.Parts.{Row}
 use Rattle.msgpack_bytes.specs.Fault.{IsFaulty}
 use Rattle.msgpack_bytes.specs.Stops.{EndsReserved, EndsTooDeep}
 use Rattle.msgpack_bytes.specs.Run.{Missing, Reserved, Deep, run}

@@ -1,5 +1,7 @@
 pub mod Format
 pub mod Item
+pub mod Sizes
+pub mod Parts
 pub mod Kinds
 pub mod Containers
 pub mod Names

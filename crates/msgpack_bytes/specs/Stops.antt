@@ -5,7 +5,8 @@ use Rattle.msgpack_bytes.specs.declared.format.Container.{Container}
 use Rattle.msgpack_bytes.specs.declared.format.Shape.{Shape}
 use Rattle.msgpack_bytes.specs.declared.format.Shape.TheVariants.{Fixed, Sized, Holds, Counted, Never}
 use Rattle.msgpack_bytes.specs.Format.{items_in, shape_of}
-use Rattle.msgpack_bytes.specs.Item.{IsContainerHeader, Row, Item, deepest}
+use Rattle.msgpack_bytes.specs.Item.{IsContainerHeader, Item, deepest}
+use Rattle.msgpack_bytes.specs.Parts.{Row}
 
 -- the bytes of a container so far: its header, fewer whole items than it has, and a part of the
 -- next
