@@ -16,8 +16,8 @@ text_scalar bytes content (inr p) = record { kind = kind.Bin; content = content;
 
 pub bool_scalar : (bytes : List ℕ) (value : Bool) → IsBool value bytes → IsScalar bytes
 unfolding shape_of
-bool_scalar bytes true p = subst IsScalar (sym p) (record { kind = kind.Bool; content = []; spelled = record { header = 0xc3 ∷ []; sized = (refl, refl, refl); whole = refl } })
-bool_scalar bytes false p = subst IsScalar (sym p) (record { kind = kind.Bool; content = []; spelled = record { header = 0xc2 ∷ []; sized = (refl, refl, refl); whole = refl } })
+bool_scalar bytes true p = subst IsScalar (sym p) (record { kind = kind.Bool; content = []; spelled = record { header = 0xc3 ∷ []; sized = inl (refl, refl); whole = refl } })
+bool_scalar bytes false p = subst IsScalar (sym p) (record { kind = kind.Bool; content = []; spelled = record { header = 0xc2 ∷ []; sized = inl (refl, refl); whole = refl } })
 
 scalar_item : (bytes : List ℕ) → IsScalar bytes → length bytes ≤ longest → IsItemWithin bytes
 unfolding Item

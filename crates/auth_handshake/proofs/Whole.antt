@@ -7,7 +7,9 @@ use Rattle.msgpack_bytes.specs.declared.format.Container.TheVariants as containe
 use Rattle.msgpack_bytes.specs.declared.format.Shape.{Shape}
 use Rattle.msgpack_bytes.specs.declared.format.Shape.TheVariants.{Fixed}
 use Rattle.msgpack_bytes.specs.Format.{shape_of}
-use Rattle.msgpack_bytes.specs.Item.{Sizes, IsScalarHeader, Row, IsScalar, Item, longest, IsItemWithin}
+use Rattle.msgpack_bytes.specs.Sizes.{Sizes}
+use Rattle.msgpack_bytes.specs.Parts.{Row}
+use Rattle.msgpack_bytes.specs.Item.{IsScalarHeader, IsScalar, Item, longest, IsItemWithin}
 use Rattle.msgpack_bytes.specs.Kinds.{IsText, IsArrayHeader}
 use Rattle.msgpack_bytes.specs.Spelling.{str_of, bin_of, bool_of, array_header_of, map_header_of}
 use Rattle.msgpack_bytes.specs.Containers.{Pair, pair_bytes, IsArrayOf}
@@ -15,6 +17,8 @@ use Rattle.auth_handshake.specs.Messages.{IsPong}
 use Rattle.auth_handshake.specs.Written.{array_of, map_of, named, helo_options, helo_bytes}
 use Rattle.auth_handshake.specs.Laws.{IsHost, IsHeloRead, IsPingRead, IsPongRead, IsRefusalRead}
 use Rattle.auth_handshake.proofs.Parts.{text_scalar, bool_scalar, scalars_array}
+use Rattle.msgpack_bytes.proofs.Headers.{scalar_sizes}
+use Rattle.msgpack_bytes.proofs.Contained.{row_item}
 use Rattle.msgpack_bytes.proofs.Shortest.{str_spelled, bin_spelled, array_spelled, map_spelled}
 use Rattle.auth_handshake.proofs.Lengths.{str_length, bin_length}
 
@@ -31,9 +35,8 @@ row_of depth (x ∷ items) p = (x, concat items, scalar_part depth x p.0, row_of
 
 -- an array of scalars, short enough
 array_item : (items : List (List ℕ)) (header : List ℕ) → IsArrayHeader (length items) header → AllByRecursion IsScalar items → length (header ++ concat items) ≤ longest → IsItemWithin (header ++ concat items)
-unfolding Item
 array_item items header h p short = record {
-  item = inr (record { container = container.Array; n = length items; header = header; inner = concat items; counted = h; parts = row_of 63 items p; whole = refl });
+  item = row_item 63 (header ++ concat items) (record { container = container.Array; n = length items; header = header; inner = concat items; counted = h; parts = row_of 63 items p; whole = refl });
   short = short;
 }
 
@@ -156,8 +159,7 @@ map_row depth p q r hp hq hr =
     pair_more depth 4 p (pair_bytes q ++ (pair_bytes r ++ [])) hp.0 hp.1 (pair_more depth 2 q (pair_bytes r ++ []) hq.0 hq.1 (pair_more depth 0 r [] hr.0 hr.1 refl))
 
 map_item : (depth : ℕ) (p q r : Pair) → IsScalarPair p → IsScalarPair q → IsScalarPair r → Item (suc depth) (map_of (p ∷ q ∷ r ∷ []))
-unfolding Item
-map_item depth p q r hp hq hr = inr (record {
+map_item depth p q r hp hq hr = row_item depth (map_of (p ∷ q ∷ r ∷ [])) (record {
   container = container.Map;
   n = 3;
   header = map_header_of 3;
@@ -168,9 +170,8 @@ map_item depth p q r hp hq hr = inr (record {
 })
 
 helo_item : (name options : List ℕ) → IsScalar name → Item 63 options → length (array_of (name ∷ options ∷ [])) ≤ longest → IsItemWithin (array_of (name ∷ options ∷ []))
-unfolding Item
 helo_item name options n o short = record {
-  item = inr (record {
+  item = row_item 63 (array_of (name ∷ options ∷ [])) (record {
     container = container.Array;
     n = 2;
     header = array_header_of 2;
@@ -188,14 +189,14 @@ short_text first n rest content e (inl p) = go p.header p.sized p.whole
   where
     go : (header : List ℕ) → IsScalarHeader kind.Str (length content) header → first ∷ rest ≡ header ++ content → length content ≡ n
     go [] h w = absurd h
-    go (a ∷ size) h w = let f : first ≡ a = cc in (subst (λ (s : Shape). Sizes s kind.Str (length content) size) (ap shape_of (sym f) ∙ e) h).2
+    go (a ∷ size) h w = let f : first ≡ a = cc in (subst (λ (s : Shape). Sizes s kind.Str (length content) size) (ap shape_of (sym f) ∙ e) (scalar_sizes kind.Str (length content) a size h)).2
 short_text first n rest content e (inr p) = go p.header p.sized p.whole
   where
     go : (header : List ℕ) → IsScalarHeader kind.Bin (length content) header → first ∷ rest ≡ header ++ content → length content ≡ n
     go [] h w = absurd h
     go (a ∷ size) h w =
         let f : first ≡ a = cc in
-        let k = (subst (λ (s : Shape). Sizes s kind.Bin (length content) size) (ap shape_of (sym f) ∙ e) h).0 in
+        let k = (subst (λ (s : Shape). Sizes s kind.Bin (length content) size) (ap shape_of (sym f) ∙ e) (scalar_sizes kind.Bin (length content) a size h)).0 in
         absurd cc
 
 no_auth : IsText (str_of (codes "auth")) (codes "nonce") → ⊥

@@ -9,9 +9,11 @@ use Rattle.msgpack_bytes.specs.declared.format.Kind.TheVariants as kind
 use Rattle.msgpack_bytes.specs.declared.format.Shape.{Shape}
 use Rattle.msgpack_bytes.specs.declared.format.Shape.TheVariants.{Fixed, Sized, Holds, Counted, Never}
 use Rattle.msgpack_bytes.specs.Format.{shape_of, big_endian}
-use Rattle.msgpack_bytes.specs.Item.{Sizes, IsScalarHeader, Spells}
+use Rattle.msgpack_bytes.specs.Sizes.{Sizes}
+use Rattle.msgpack_bytes.specs.Item.{IsScalarHeader, Spells}
 use Rattle.msgpack_bytes.specs.Kinds.{IsInteger, Positive, Negative, Unsigned, Signed}
 use Rattle.msgpack_bytes.specs.Spelling.{IsBytes}
+use Rattle.msgpack_bytes.proofs.Headers.{scalar_sizes}
 use Rattle.msgpack_bytes.proofs.Numbers.{span_small}
 use Rattle.msgpack_bytes.proofs.Rows.{fixed_unsigned, sized_unsigned, fixed_signed, sized_signed}
 use Rattle.msgpack_bytes.proofs.Slices.{less, not_less, less_true}
@@ -39,11 +41,11 @@ most_by k byte n rest Never fixed sized e z = absurd z
 
 unsigned_most : (n : ℕ) (h : List ℕ) → IsScalarHeader kind.Unsigned n h → n ≤ 8
 unsigned_most n [] z = absurd z
-unsigned_most n (byte ∷ rest) z = most_by kind.Unsigned byte n rest (shape_of byte) (λ m e. (fixed_unsigned byte m e).1) (λ w x e. sized_unsigned byte w x e) refl z
+unsigned_most n (byte ∷ rest) z = most_by kind.Unsigned byte n rest (shape_of byte) (λ m e. (fixed_unsigned byte m e).1) (λ w x e. sized_unsigned byte w x e) refl (scalar_sizes kind.Unsigned n byte rest z)
 
 signed_most : (n : ℕ) (h : List ℕ) → IsScalarHeader kind.Signed n h → n ≤ 8
 signed_most n [] z = absurd z
-signed_most n (byte ∷ rest) z = most_by kind.Signed byte n rest (shape_of byte) (λ m e. (fixed_signed byte m e).1) (λ w x e. sized_signed byte w x e) refl z
+signed_most n (byte ∷ rest) z = most_by kind.Signed byte n rest (shape_of byte) (λ m e. (fixed_signed byte m e).1) (λ w x e. sized_signed byte w x e) refl (scalar_sizes kind.Signed n byte rest z)
 
 bytes_after : (h content : List ℕ) → IsBytes (h ++ content) → IsBytes content
 bytes_after [] content b = b

@@ -9,9 +9,11 @@ use Rattle.msgpack_bytes.specs.declared.format.Kind.TheVariants as kind
 use Rattle.msgpack_bytes.specs.declared.format.Shape.{Shape}
 use Rattle.msgpack_bytes.specs.declared.format.Shape.TheVariants.{Fixed, Sized, Holds, Counted, Never}
 use Rattle.msgpack_bytes.specs.Format.{shape_of, big_endian}
-use Rattle.msgpack_bytes.specs.Item.{Sizes, IsScalarHeader, Spells, IsItemWithin}
+use Rattle.msgpack_bytes.specs.Sizes.{Sizes}
+use Rattle.msgpack_bytes.specs.Item.{IsScalarHeader, Spells, IsItemWithin}
 use Rattle.msgpack_bytes.specs.Kinds.{IsStr}
 use Rattle.msgpack_bytes.specs.Answers.{IsHead}
+use Rattle.msgpack_bytes.proofs.Headers.{scalar_sizes}
 use Rattle.msgpack_bytes.proofs.Slices.{drop_behind, slice_front}
 use Rattle.event_modes.proofs.Begins.{text_one}
 use Rattle.event_modes.proofs.Heads.{spells_all, span_front}
@@ -89,7 +91,7 @@ header_of n byte rest Never e z = absurd z
 
 float_header : (n : ℕ) (header : List ℕ) → IsScalarHeader kind.Float n header → FloatHeader n header
 float_header n [] z = absurd z
-float_header n (byte ∷ rest) z = header_of n byte rest (shape_of byte) refl z
+float_header n (byte ∷ rest) z = header_of n byte rest (shape_of byte) refl (scalar_sizes kind.Float n byte rest z)
 
 -- a float is a byte, and its content
 pub record Float (item content : List ℕ) : Type 0 where

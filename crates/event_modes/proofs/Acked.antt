@@ -1,7 +1,7 @@
 -- What is written as an acknowledgement is one, and where its content lies.
 use Rattle.std.proofs.Common.{ℕ, ◌≡◌, ◌+◌, ◌-◌, ◌≤◌, List, [], ◌∷◌, ◌++◌, length, take, drop, refl, ap, sym, subst, ◌∙◌, arith, append_assoc, inl, inr}
 use Rattle.std.specs.Prelude.{codes, slice_range}
-use Rattle.std.specs.List.{concat, flat_map}
+use Rattle.std.specs.List.{concat}
 use Rattle.std.proofs.lemmas.List.{append-nil, length-append, length-drop, length-take-le, take_all, take-append-drop, take-append-le, drop-append-le}
 use Rattle.msgpack_bytes.specs.declared.format.Kind.TheVariants as kind
 use Rattle.msgpack_bytes.specs.declared.format.Container.TheVariants as container
@@ -9,7 +9,7 @@ use Rattle.msgpack_bytes.specs.Format.{shape_of}
 use Rattle.msgpack_bytes.specs.Item.{IsScalarHeader, IsContainerHeader, Spells, IsItemWithin}
 use Rattle.msgpack_bytes.specs.Kinds.{IsText}
 use Rattle.msgpack_bytes.proofs.Slices.{slice_middle}
-use Rattle.msgpack_bytes.specs.Containers.{IsPart, Pair, pair_items, pair_bytes, IsMap}
+use Rattle.msgpack_bytes.specs.Containers.{IsPart, Pair, pair_items, IsMap}
 use Rattle.msgpack_bytes.specs.Names.{HasNoKey, IsLastValue}
 use Rattle.event_modes.specs.Options.{longest_chunk}
 use Rattle.event_modes.specs.Pairs.{pair_of}
@@ -27,7 +27,7 @@ use Rattle.event_modes.specs.Acks.{IsAckAt, AckFault, AnswersAck}
 use Rattle.event_modes.specs.Acknowledgement.{IsAcknowledgement, acknowledgement_of}
 use Rattle.event_modes.proofs.Parting.{same_front, text_item, scalar_is_part, container_is_item}
 use Rattle.event_modes.proofs.Begins.{map_one, text_one}
-use Rattle.event_modes.proofs.Counted.{pair_concat}
+use Rattle.msgpack_bytes.proofs.Contained.{pairs_map}
 use Rattle.msgpack_bytes.proofs.Walk.{last_one}
 use Rattle.event_modes.proofs.Last.{same_last, lacks_last}
 
@@ -36,19 +36,19 @@ ack_key = 0xa3 ∷ 0x61 ∷ 0x63 ∷ 0x6b ∷ []
 
 key_header : IsScalarHeader kind.Str 3 (0xa3 ∷ [])
 unfolding shape_of
-key_header = (refl, refl, refl)
+key_header = inl (refl, refl)
 
 one_header : IsContainerHeader container.Map 1 (0x81 ∷ [])
 unfolding shape_of
-one_header = (refl, refl, refl)
+one_header = inl (refl, refl)
 
 key_spelled : Spells kind.Str ack_key (codes "ack")
 unfolding ack_key
 key_spelled = record { header = 0xa3 ∷ []; sized = key_header; whole = refl }
 
 pub text_part : (bytes content : List ℕ) → IsText bytes content → IsPart bytes
-text_part bytes content (inl s) = record { item = scalar_is_part bytes (record { kind = kind.Str; content = content; spelled = s }) }
-text_part bytes content (inr s) = record { item = scalar_is_part bytes (record { kind = kind.Bin; content = content; spelled = s }) }
+text_part bytes content (inl s) = scalar_is_part bytes (record { kind = kind.Str; content = content; spelled = s })
+text_part bytes content (inr s) = scalar_is_part bytes (record { kind = kind.Bin; content = content; spelled = s })
 
 ack_whole : (item : List ℕ) → acknowledgement_of item ≡ (0x81 ∷ []) ++ (ack_key ++ item)
 unfolding ack_key
@@ -67,13 +67,18 @@ acknowledges item content t l =
           header = 0x81 ∷ [];
           inner = ack_key ++ item;
           counted = one_header;
-          parts = (ack_key, item, k.item, (item, [], v.item, refl, sym (append-nil item)), refl);
+          parts = (ack_key, item, k, (item, [], v, refl, sym (append-nil item)), refl);
           whole = ack_whole item;
         });
         short = omega arith;
       };
       pairs = pair_of ack_key item ∷ [];
-      map = record { header = 0x81 ∷ []; counted = one_header; each = (record { key = k; value = v }, tt); whole = ack_whole item ∙ ap (λ (z : List ℕ). (0x81 ∷ []) ++ z) (sym (append-nil (ack_key ++ item))) };
+      map = pairs_map (pair_of ack_key item ∷ []) (acknowledgement_of item) (record {
+        header = 0x81 ∷ [];
+        counted = one_header;
+        each = (record { key = k; value = v }, tt);
+        whole = ack_whole item ∙ ap (λ (z : List ℕ). (0x81 ∷ []) ++ z) (sym (append-nil (ack_key ++ item)));
+      });
       value = item;
       last = record { before = []; key = ack_key; after = []; named = inl key_spelled; last = tt; whole = refl };
       text = t;
@@ -99,7 +104,7 @@ placed item name value content pairs behind l m b t =
     let h = spelled value content t in
     let before : List ℕ = concat (pair_items l.before) in
     let after : List ℕ = concat (pair_items l.after) in
-    let inner : flat_map pair_bytes pairs ≡ before ++ (l.key ++ (value ++ after)) = sym (pair_concat pairs) ∙ ap (λ (ps : List Pair). concat (pair_items ps)) l.whole ∙ concat-pairs l.before (pair_of l.key value ∷ l.after) in
+    let inner : concat (pair_items pairs) ≡ before ++ (l.key ++ (value ++ after)) = ap (λ (ps : List Pair). concat (pair_items ps)) l.whole ∙ concat-pairs l.before (pair_of l.key value ∷ l.after) in
     let e : item ≡ m.header ++ (before ++ (l.key ++ (value ++ after))) = m.whole ∙ ap (λ (z : List ℕ). m.header ++ z) inner in
     let front : List ℕ = m.header ++ (before ++ (l.key ++ h.0)) in
     record {

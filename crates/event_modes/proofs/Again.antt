@@ -1,5 +1,5 @@
 -- Stored entries are read again.
-use Rattle.std.proofs.Common.{false, true, ◌==◌, get_or, ℕ, ◌≡◌, ◌+◌, ◌-◌, ◌<◌, List, [], ◌∷◌, ◌++◌, length, refl, ap, sym, subst, ◌∙◌, arith, append_assoc}
+use Rattle.std.proofs.Common.{false, true, ◌==◌, get_or, ℕ, ◌≡◌, ◌+◌, ◌-◌, ◌<◌, List, [], ◌∷◌, ◌++◌, length, refl, ap, sym, subst, ◌∙◌, arith, append_assoc, inl, inr}
 use Rattle.std.specs.List.{AllByRecursion, concat}
 use Rattle.std.proofs.lemmas.List.{append-nil, length-append, nil_from_length}
 use Rattle.std.proofs.lemmas.Bool.{eqb-true}
@@ -18,7 +18,8 @@ use Rattle.event_modes.proofs.Only.{no_begin}
 
 short_header : (h : List ℕ) → IsContainerHeader container.Array 2 (0x92 ∷ h) → h ≡ []
 unfolding shape_of
-short_header h p = p.1
+short_header h (inl p) = p.1
+short_header h (inr p) = absurd (let e = p.0 in cc)
 
 -- an entry that begins as it is stored is stored so
 pub is_kept : (entry stored : List ℕ) → IsItemWithin entry → get_or entry 0 0 ≡ 0x92 → IsEntry entry stored → IsStored entry

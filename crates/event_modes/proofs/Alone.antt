@@ -4,12 +4,13 @@ use Rattle.std.specs.List.{AllByRecursion, concat}
 use Rattle.std.proofs.lemmas.List.{append-nil, length-append, take-append-drop, length-take-le}
 use Rattle.std.proofs.Math.Seq.{drop-cons}
 use Rattle.std.proofs.lemmas.Grind.{common_steps}
-use Rattle.msgpack_bytes.specs.declared.format.Shape.{Shape}
+use Rattle.msgpack_bytes.specs.declared.format.Shape.TheVariants.{Fixed}
 use Rattle.msgpack_bytes.specs.declared.format.Kind.TheVariants as kind
 use Rattle.msgpack_bytes.specs.declared.format.Container.{Container}
 use Rattle.msgpack_bytes.specs.declared.format.Container.TheVariants as container
 use Rattle.msgpack_bytes.specs.Format.{big_endian, items_in, shape_of}
-use Rattle.msgpack_bytes.specs.Item.{Sizes, IsScalarHeader, IsContainerHeader, IsScalar, Row, Item, longest, IsItemWithin}
+use Rattle.msgpack_bytes.specs.Parts.{Row}
+use Rattle.msgpack_bytes.specs.Item.{IsScalarHeader, IsContainerHeader, IsScalar, Item, longest, IsItemWithin}
 use Rattle.msgpack_bytes.specs.Kinds.{IsText, Unsigned, Positive}
 use Rattle.msgpack_bytes.specs.Containers.{IsPart, IsArray}
 use Rattle.event_modes.specs.Entry.{IsEventTime, IsTime, IsRecord}
@@ -17,9 +18,10 @@ use Rattle.event_modes.specs.Message.{Single}
 use Rattle.event_modes.specs.Rows.{IsStored}
 use Rattle.event_modes.specs.Usual.{BeginsStr, BeginsMap, BeginsEvent, IsOneEvent}
 use Rattle.msgpack_bytes.proofs.Rows.{fixstr}
+use Rattle.msgpack_bytes.proofs.Contained.{row_items, pairs_map}
 use Rattle.event_modes.proofs.Parting.{IsItem, item_cases, scalar_is_item, part_item, same_front, same_behind}
 use Rattle.event_modes.proofs.Begins.{family_of, family_in, family_at, BeginsAs, begins_one, begins_front, spells_begins, header_begins, int_begins, array_begins}
-use Rattle.event_modes.proofs.Heads.{container_parts, row_items, row_pairs, same_container, no_scalar, integer_scalar}
+use Rattle.event_modes.proofs.Heads.{container_parts, row_pairs, same_container, no_scalar, integer_scalar}
 use Rattle.event_modes.proofs.Collected.{stored_is}
 
 -- ---- times
@@ -27,8 +29,8 @@ use Rattle.event_modes.proofs.Collected.{stored_is}
 event_time_scalar : (bytes : List ℕ) → IsEventTime bytes → IsScalar bytes
 unfolding shape_of
 event_time_scalar bytes t = elim t.spelled [
-  | inl e ↦ record { kind = kind.Ext; content = 0x00 ∷ t.content; spelled = record { header = 0xd7 ∷ []; sized = (refl, refl, (let n = t.eight in omega arith)); whole = e } }
-  | inr e ↦ record { kind = kind.Ext; content = 0x00 ∷ t.content; spelled = record { header = 0xc7 ∷ 0x08 ∷ []; sized = (refl, refl, (let n = t.eight in omega arith)); whole = e } }
+  | inl e ↦ record { kind = kind.Ext; content = 0x00 ∷ t.content; spelled = record { header = 0xd7 ∷ []; sized = inl (ap (λ (n : ℕ). Fixed kind.Ext (suc n)) (sym t.eight), refl); whole = e } }
+  | inr e ↦ record { kind = kind.Ext; content = 0x00 ∷ t.content; spelled = record { header = 0xc7 ∷ 0x08 ∷ []; sized = inr (1, refl, (let n = t.eight in omega arith)); whole = e } }
 ]
 
 time_scalar : (bytes : List ℕ) → IsTime bytes → IsScalar bytes
@@ -69,7 +71,7 @@ begins_record bytes p b = elim (item_cases bytes p) [
       let e = same_container d.container container.Map (begins_one (family_in d.container) 8 bytes (begins_front (family_in d.container) bytes d.header d.inner (header_begins d.container d.n d.header d.counted) d.whole) b) in
       let counted = subst (λ (c : Container). IsContainerHeader c d.n d.header) e d.counted in
       let r = row_pairs d.n d.inner (subst (λ (c : Container). Row (Item 63) (items_in c d.n) d.inner) e d.parts) in
-      (r.0, record { header = d.header; counted = subst (λ (n : ℕ). IsContainerHeader container.Map n d.header) r.1 counted; each = r.2; whole = d.whole ∙ ap (λ (z : List ℕ). d.header ++ z) r.3 })
+      (r.0, pairs_map r.0 bytes (record { header = d.header; counted = subst (λ (n : ℕ). IsContainerHeader container.Map n d.header) r.1 counted; each = r.2; whole = d.whole ∙ ap (λ (z : List ℕ). d.header ++ z) r.3 }))
 ]
 
 -- ---- strs
@@ -82,7 +84,7 @@ pub begins_as : (item elements : List ℕ) (first : ℕ) → 0 < length item →
 begins_as item elements first h e d = first_of item first h e ∙ ap (λ (z : List ℕ). first ∷ z) (sym d)
 
 short_header : (n : ℕ) → n < 32 → IsScalarHeader kind.Str n ((0xa0 + n) ∷ [])
-short_header n h = subst (λ (s : Shape). Sizes s kind.Str n []) (sym (fixstr n h)) (refl, refl, refl)
+short_header n h = inl (fixstr n h, refl)
 
 -- a fixstr
 pub short_found : (bytes content behind : List ℕ) (first : ℕ) → 0 < length bytes → get_or bytes 0 0 ≡ first → 0xa0 ≤ first → first ≤ 0xbf → length content ≡ first - 0xa0 → drop 1 bytes ≡ content ++ behind → BeginsStr bytes content behind
@@ -102,7 +104,7 @@ longer_found [] content behind size h e f small n d = absurd (omega arith)
 longer_found (x ∷ []) content behind size h e f small n d = absurd (omega arith)
 longer_found (x ∷ y ∷ rest) content behind size h e f small n d = record {
   front = 0xd9 ∷ size ∷ content;
-  is_str = record { header = 0xd9 ∷ size ∷ []; sized = (refl, refl, omega arith); whole = refl };
+  is_str = record { header = 0xd9 ∷ size ∷ []; sized = inr (0, refl, omega arith); whole = refl };
   whole = ap (λ (b : ℕ). b ∷ y ∷ rest) e ∙ ap (λ (b : ℕ). 0xd9 ∷ b ∷ rest) f ∙ ap (λ (z : List ℕ). 0xd9 ∷ size ∷ z) d;
   short = omega arith;
 }
@@ -133,7 +135,7 @@ seconds_found (x ∷ more) h e m = record {
   rest = drop 5 more;
   is_time = inl (
     pos (big_endian (take 4 more)),
-    Unsigned (take 4 more) (record { header = 0xce ∷ []; sized = (refl, refl, length-take-le 4 more (omega arith)); whole = refl }) refl,
+    Unsigned (take 4 more) (record { header = 0xce ∷ []; sized = inl (ap (λ (n : ℕ). Fixed kind.Unsigned n) (sym (length-take-le 4 more (omega arith))), refl); whole = refl }) refl,
   );
   map = m;
   whole = ap (λ (b : ℕ). b ∷ more) e ∙ ap (λ (z : List ℕ). 0xce ∷ z) (cut_at more 4 (omega arith));
@@ -188,13 +190,13 @@ event_stored event short v =
 
 two_header : IsContainerHeader container.Array 2 (0x92 ∷ [])
 unfolding shape_of
-two_header = (refl, refl, refl)
+two_header = inl (refl, refl)
 
 pub entry_is_stored : (entry event : List ℕ) → IsItemWithin entry → entry ≡ 0x92 ∷ event → BeginsEvent event → IsStored entry
 entry_is_stored entry event t e v = parts r.0 r.1 r.2 r.3
   where
     r : (items : List (List ℕ)) × (2 ≡ length items) × AllByRecursion IsPart items × (event ≡ concat items)
-    r = row_items 2 event (container_parts container.Array 2 (0x92 ∷ []) event (subst IsItemWithin e t) two_header)
+    r = row_items (Item 63) 2 event (container_parts container.Array 2 (0x92 ∷ []) event (subst IsItemWithin e t) two_header)
 
     parts : (items : List (List ℕ)) → 2 ≡ length items → AllByRecursion IsPart items → event ≡ concat items → IsStored entry
     parts [] n p w = absurd (omega arith)
@@ -206,7 +208,7 @@ entry_is_stored entry event t e v = parts r.0 r.1 r.2 r.3
 
 three_header : IsContainerHeader container.Array 3 (0x93 ∷ [])
 unfolding shape_of
-three_header = (refl, refl, refl)
+three_header = inl (refl, refl)
 
 pub one_event_is : (item tag event elements : List ℕ) → IsItemWithin item → item ≡ 0x93 ∷ elements → BeginsStr elements tag event → BeginsEvent event → IsOneEvent item tag event
 one_event_is item tag event elements t e s v = parts r.0 r.1 r.2 r.3
@@ -221,7 +223,7 @@ one_event_is item tag event elements t e s v = parts r.0 r.1 r.2 r.3
     spelled = e ∙ ap (λ (z : List ℕ). 0x93 ∷ z) s.whole
 
     r : (items : List (List ℕ)) × (3 ≡ length items) × AllByRecursion IsPart items × (inner ≡ concat items)
-    r = row_items 3 inner (container_parts container.Array 3 (0x93 ∷ []) inner (subst IsItemWithin spelled t) three_header)
+    r = row_items (Item 63) 3 inner (container_parts container.Array 3 (0x93 ∷ []) inner (subst IsItemWithin spelled t) three_header)
 
     of : IsPart front → Event event → IsOneEvent item tag event
     of p x = record {
@@ -233,6 +235,7 @@ one_event_is item tag event elements t e s v = parts r.0 r.1 r.2 r.3
           array = record {
             header = 0x93 ∷ [];
             counted = three_header;
+            all = refl;
             each = (p, (x.time_part, (x.fields_part, tt)));
             whole = spelled ∙ ap (λ (z : List ℕ). 0x93 ∷ (front ++ z)) (x.whole ∙ ap (λ (z : List ℕ). x.time ++ z) (sym (append-nil x.fields)));
           };

@@ -1,6 +1,6 @@
 -- What family of items one is of, from its first byte; and that a header is one.
-use Rattle.std.proofs.Common.{ℕ, ◌≡◌, ℤ, List, [], ◌∷◌, ◌++◌, length, refl, ap, sym, subst, ◌∙◌, arith, append_assoc, inl, inr}
-use Rattle.std.specs.List.{AllByRecursion, concat, flat_map}
+use Rattle.std.proofs.Common.{ℕ, ◌≡◌, ◌*◌, ℤ, List, [], ◌∷◌, ◌++◌, length, refl, ap, sym, subst, ◌∙◌, arith, inl, inr}
+use Rattle.std.specs.List.{concat}
 use Rattle.std.proofs.lemmas.List.{append_cancel_left, append-nil}
 use Rattle.msgpack_bytes.specs.declared.format.Shape.{Shape}
 use Rattle.msgpack_bytes.specs.declared.format.Shape.TheVariants.{Fixed, Sized, Holds, Counted, Never}
@@ -9,12 +9,13 @@ use Rattle.msgpack_bytes.specs.declared.format.Kind.TheVariants as kind
 use Rattle.msgpack_bytes.specs.declared.format.Container.{Container}
 use Rattle.msgpack_bytes.specs.declared.format.Container.TheVariants as container
 use Rattle.msgpack_bytes.specs.Format.{big_endian, shape_of}
-use Rattle.msgpack_bytes.specs.Item.{Sizes, Counts, IsScalarHeader, IsContainerHeader, Spells}
+use Rattle.msgpack_bytes.specs.Sizes.{Sizes, Counts}
+use Rattle.msgpack_bytes.specs.Item.{IsScalarHeader, IsContainerHeader, Spells}
 use Rattle.msgpack_bytes.specs.Kinds.{IsNil, IsStr, IsBin, IsText, IsInteger, Positive, Negative, Unsigned, Signed}
+use Rattle.msgpack_bytes.proofs.Headers.{scalar_sizes, container_counts}
 use Rattle.msgpack_bytes.proofs.Sound.{positive_shape, negative_shape}
-use Rattle.msgpack_bytes.specs.Containers.{Pair, IsPair, pair_bytes, IsArray, IsMap}
-use Rattle.event_modes.proofs.Parting.{same_front}
-use Rattle.event_modes.proofs.Parting.{same_behind, same_items, part_item, parts_items}
+use Rattle.msgpack_bytes.specs.Containers.{Pair, pair_items, IsArray, IsMap}
+use Rattle.event_modes.proofs.Parting.{same_items, parts_items}
 
 -- ---- headers
 
@@ -63,8 +64,8 @@ one_header c m n (a ∷ g) [] x y p q e = absurd q
 one_header c m n (a ∷ g) (b ∷ h) x y p q e =
     let f : a ≡ b = cc in
     let t : g ++ x ≡ h ++ y = cc in
-    let p' = subst (λ (z : ℕ). Counts (shape_of z) c m g) f p in
-    let r = counts_one (shape_of b) c g h m n x y p' q t in
+    let p' = subst (λ (z : ℕ). Counts (shape_of z) c m g) f (container_counts c m a g p) in
+    let r = counts_one (shape_of b) c g h m n x y p' (container_counts c n b h q) t in
     record {
       count = r.1;
       header = (let l = r.0 in cc);
@@ -125,11 +126,11 @@ counts_family Never c n g p = absurd p
 
 scalar_header_begins : (k : Kind) (n : ℕ) (g : List ℕ) → IsScalarHeader k n g → BeginsAs (family_of k) g
 scalar_header_begins k n [] p = absurd p
-scalar_header_begins k n (a ∷ g) p = sizes_family (shape_of a) k n g p
+scalar_header_begins k n (a ∷ g) p = sizes_family (shape_of a) k n g (scalar_sizes k n a g p)
 
 pub header_begins : (c : Container) (n : ℕ) (g : List ℕ) → IsContainerHeader c n g → BeginsAs (family_in c) g
 header_begins c n [] p = absurd p
-header_begins c n (a ∷ g) p = counts_family (shape_of a) c n g p
+header_begins c n (a ∷ g) p = counts_family (shape_of a) c n g (container_counts c n a g p)
 
 pub begins_front : (f : ℕ) (bytes front back : List ℕ) → BeginsAs f front → bytes ≡ front ++ back → BeginsAs f bytes
 begins_front f bytes front back b e = subst (BeginsAs f) (sym e) (begins_more f front back b)
@@ -141,7 +142,7 @@ pub array_begins : (items : List (List ℕ)) (bytes : List ℕ) → IsArray item
 array_begins items bytes a = begins_front 7 bytes a.header (concat items) (header_begins container.Array (length items) a.header a.counted) a.whole
 
 pub map_begins : (pairs : List Pair) (bytes : List ℕ) → IsMap pairs bytes → BeginsAs 8 bytes
-map_begins pairs bytes a = begins_front 8 bytes a.header (flat_map pair_bytes pairs) (header_begins container.Map (length pairs) a.header a.counted) a.whole
+map_begins pairs bytes a = begins_front 8 bytes a.header (concat (pair_items pairs)) (header_begins container.Map (length pairs) a.header a.counted) a.whole
 
 pub nil_begins : (bytes : List ℕ) → IsNil bytes → BeginsAs 0 bytes
 unfolding shape_of
@@ -164,7 +165,7 @@ spells_one k bytes c d s t = headers_one s.header t.header s.sized t.sized (sym 
     headers_one (a ∷ g) (b ∷ h) p q e =
         let f : a ≡ b = cc in
         let t : g ++ c ≡ h ++ d = cc in
-        sizes_one (shape_of b) k g h c d (subst (λ (z : ℕ). Sizes (shape_of z) k (length c) g) f p) q t
+        sizes_one (shape_of b) k g h c d (subst (λ (z : ℕ). Sizes (shape_of z) k (length c) g) f (scalar_sizes k (length c) a g p)) (scalar_sizes k (length d) b h q) t
 
 str_no_bin : (bytes c d : List ℕ) → IsStr bytes c → IsBin bytes d → ⊥
 str_no_bin bytes c d s t = let e = begins_one 4 5 bytes (spells_begins kind.Str bytes c s) (spells_begins kind.Bin bytes d t) in omega arith
@@ -188,29 +189,26 @@ same_pair a b k v = ap (λ (x : List ℕ). pair x a.value) k ∙ ap (λ (x : Lis
     pair : List ℕ → List ℕ → Pair
     pair k v = record { key = k; value = v }
 
-pairs_one : (ps qs : List Pair) → AllByRecursion IsPair ps → AllByRecursion IsPair qs → length ps ≡ length qs → flat_map pair_bytes ps ≡ flat_map pair_bytes qs → ps ≡ qs
-pairs_one [] [] p q l e = refl
-pairs_one [] (b ∷ qs) p q l e = absurd (omega arith)
-pairs_one (a ∷ ps) [] p q l e = absurd (omega arith)
-pairs_one (a ∷ ps) (b ∷ qs) p q l e =
-    let e' : a.key ++ (a.value ++ flat_map pair_bytes ps) ≡ b.key ++ (b.value ++ flat_map pair_bytes qs) =
-    sym (append_assoc a.key a.value (flat_map pair_bytes ps)) ∙ e ∙ append_assoc b.key b.value (flat_map pair_bytes qs) in
-    let i = part_item a.key p.0.key in
-    let j = part_item b.key q.0.key in
-    let k = same_front a.key b.key _ _ i j e' in
-    let d = same_behind a.key b.key _ _ i j e' in
-    let m = part_item a.value p.0.value in
-    let n = part_item b.value q.0.value in
-    let v = same_front a.value b.value _ _ m n d in
-    let r = pairs_one ps qs p.1 q.1 (omega arith) (same_behind a.value b.value _ _ m n d) in
-    let s = same_pair a b k v in
+-- keys and values by turns are those of one list of pairs
+pub pairs_back : (ps qs : List Pair) → pair_items ps ≡ pair_items qs → ps ≡ qs
+pairs_back [] [] e = refl
+pairs_back [] (q ∷ qs) e = absurd cc
+pairs_back (p ∷ ps) [] e = absurd cc
+pairs_back (p ∷ ps) (q ∷ qs) e =
+    let t : pair_items ps ≡ pair_items qs = cc in
+    let r = pairs_back ps qs t in
+    let k : p.key ≡ q.key = cc in
+    let v : p.value ≡ q.value = cc in
+    let s = same_pair p q k v in
     cc
 
 -- a map has one list of pairs
 pub map_one : (ps qs : List Pair) (bytes : List ℕ) → IsMap ps bytes → IsMap qs bytes → ps ≡ qs
 map_one ps qs bytes a b =
-    let h = one_header container.Map (length ps) (length qs) a.header b.header (flat_map pair_bytes ps) (flat_map pair_bytes qs) a.counted b.counted (sym a.whole ∙ b.whole) in
-    pairs_one ps qs a.each b.each h.count h.behind
+    let h = one_header container.Map (length ps) (length qs) a.header b.header (concat (pair_items ps)) (concat (pair_items qs)) a.counted b.counted (sym a.whole ∙ b.whole) in
+    let n : length (pair_items ps) ≡ length (pair_items qs) = a.all ∙ ap (λ (k : ℕ). 2 * k) h.count ∙ sym b.all in
+    pairs_back ps qs (same_items (pair_items ps) (pair_items qs) [] [] (parts_items (pair_items ps) a.each) (parts_items (pair_items qs) b.each) n
+    (append-nil (concat (pair_items ps)) ∙ h.behind ∙ sym (append-nil (concat (pair_items qs))))).0
 
 -- ---- no item is of two families
 

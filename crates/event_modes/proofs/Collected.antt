@@ -5,7 +5,8 @@ use Rattle.std.proofs.lemmas.List.{append-nil, length-append}
 use Rattle.std.proofs.lemmas.List.Elements.{AllZip-push}
 use Rattle.msgpack_bytes.specs.declared.format.Container.TheVariants as container
 use Rattle.msgpack_bytes.specs.Format.{shape_of}
-use Rattle.msgpack_bytes.specs.Item.{IsContainer, IsContainerHeader, Item, longest, IsItemWithin}
+use Rattle.msgpack_bytes.specs.Parts.{HasRow}
+use Rattle.msgpack_bytes.specs.Item.{IsContainerHeader, Item, longest, IsItemWithin}
 use Rattle.event_modes.specs.declared.fault.ModeFault.{ModeFault}
 use Rattle.msgpack_bytes.specs.Containers.{IsPart, IsArray}
 use Rattle.event_modes.specs.Entry.{IsTime, IsRecord, stored_entry, IsEntry}
@@ -24,16 +25,16 @@ part_text bytes p l = record { item = (part_item bytes p).item; short = l }
 
 pair_header : IsContainerHeader container.Array 2 (0x92 ∷ [])
 unfolding shape_of
-pair_header = (refl, refl, refl)
+pair_header = inl (refl, refl)
 
-stored_container : (time fields : List ℕ) → IsPart time → IsPart fields → IsContainer (Item 63) (stored_entry time fields)
+stored_container : (time fields : List ℕ) → IsPart time → IsPart fields → HasRow (Item 63) (stored_entry time fields)
 stored_container time fields t f = record {
   container = container.Array;
   n = 2;
   header = 0x92 ∷ [];
   inner = time ++ fields;
   counted = pair_header;
-  parts = (time, fields, t.item, (fields, [], f.item, refl, sym (append-nil fields)), refl);
+  parts = (time, fields, t, (fields, [], f, refl, sym (append-nil fields)), refl);
   whole = refl;
 }
 
@@ -43,7 +44,7 @@ stored_is time fields t f i r l = record {
   kept = record {
     time = time;
     fields = fields;
-    array = record { header = 0x92 ∷ []; counted = pair_header; each = (t, (f, tt)); whole = ap (λ (x : List ℕ). 0x92 ∷ time ++ x) (sym (append-nil fields)) };
+    array = record { header = 0x92 ∷ []; counted = pair_header; all = refl; each = (t, (f, tt)); whole = ap (λ (x : List ℕ). 0x92 ∷ time ++ x) (sym (append-nil fields)) };
     is_time = i;
     is_record = r;
     is_stored = refl;

@@ -7,9 +7,10 @@ use Rattle.msgpack_bytes.specs.Item.{IsItemWithin}
 use Rattle.msgpack_bytes.specs.Answers.{Begins}
 use Rattle.msgpack_bytes.specs.Answers.{IsHead}
 use Rattle.msgpack_bytes.specs.declared.answers.Head.TheVariants as head
+use Rattle.msgpack_bytes.proofs.Contained.{pair_concat, length-pair_items}
 use Rattle.event_modes.proofs.Heads.{is_array, is_map}
 use Rattle.event_modes.specs.Rows.{behind_item, items_of, AreItems}
-use Rattle.msgpack_bytes.specs.Containers.{IsPart, Pair, IsPair, pair_items, pair_bytes, IsArray, IsMap}
+use Rattle.msgpack_bytes.specs.Containers.{Pair, pair_items, pair_bytes, IsArray, IsMap}
 use Rattle.event_modes.proofs.Parting.{IsItem, run_item, same_front}
 use Rattle.event_modes.proofs.Parting.{same_behind, text_item, texts_items, parts_texts}
 
@@ -91,21 +92,9 @@ take_one count bytes item others lt a t e = taken (items_of count bytes) refl
 pub element_texts : (items : List (List ℕ)) (bytes : List ℕ) → IsItemWithin bytes → IsArray items bytes → AllByRecursion IsItemWithin items
 element_texts items bytes t a = parts_texts items a.each (omega (arith, t.short, ap length a.whole, length-append a.header (concat items)))
 
-pub pair_concat : (pairs : List Pair) → concat (pair_items pairs) ≡ flat_map pair_bytes pairs
-pair_concat [] = refl
-pair_concat (p ∷ pairs) = ap (λ (z : List ℕ). p.key ++ (p.value ++ z)) (pair_concat pairs) ∙ sym (append_assoc p.key p.value (flat_map pair_bytes pairs))
-
-pair_parts : (pairs : List Pair) → AllByRecursion IsPair pairs → AllByRecursion IsPart (pair_items pairs)
-pair_parts [] p = tt
-pair_parts (q ∷ pairs) p = (p.0.key, (p.0.value, pair_parts pairs p.1))
-
-pub length-pair_items : (pairs : List Pair) → length (pair_items pairs) ≡ 2 * length pairs
-length-pair_items [] = refl
-length-pair_items (p ∷ pairs) = let h = length-pair_items pairs in omega arith
-
 pub pair_texts : (pairs : List Pair) (bytes : List ℕ) → IsItemWithin bytes → IsMap pairs bytes → AllByRecursion IsItemWithin (pair_items pairs)
 pair_texts pairs bytes t a =
-    parts_texts (pair_items pairs) (pair_parts pairs a.each) (omega (arith, t.short, ap length a.whole, length-append a.header (flat_map pair_bytes pairs), ap length (pair_concat pairs)))
+    parts_texts (pair_items pairs) a.each (omega (arith, t.short, ap length a.whole, length-append a.header (concat (pair_items pairs))))
 
 -- the bytes behind the header of an array are its items
 pub array_items : (items : List (List ℕ)) (bytes inner : List ℕ) (count : ℕ) → IsItemWithin bytes → IsArray items bytes → count ≡ length items → inner ≡ concat items → AreItems count inner × (items_of count inner ≡ items)

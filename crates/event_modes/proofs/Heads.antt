@@ -5,17 +5,18 @@ use Rattle.std.specs.List.{AllByRecursion, concat, flat_map}
 use Rattle.std.proofs.lemmas.List.{append-nil, take-append-drop, length-append}
 use Rattle.msgpack_bytes.specs.declared.answers.Head.{Head}
 use Rattle.msgpack_bytes.specs.declared.answers.Head.TheVariants as head
-use Rattle.msgpack_bytes.specs.declared.format.Shape.{Shape}
 use Rattle.msgpack_bytes.specs.declared.format.Kind.{Kind}
 use Rattle.msgpack_bytes.specs.declared.format.Kind.TheVariants as kind
 use Rattle.msgpack_bytes.specs.declared.format.Container.{Container}
 use Rattle.msgpack_bytes.specs.declared.format.Container.TheVariants as container
 use Rattle.msgpack_bytes.specs.Format.{items_in, shape_of}
-use Rattle.msgpack_bytes.specs.Item.{Sizes, IsContainerHeader, IsScalar, Spells, Row, Item, IsItemWithin}
+use Rattle.msgpack_bytes.specs.Item.{IsContainerHeader, IsScalar, Spells, Item, IsItemWithin}
+use Rattle.msgpack_bytes.specs.Parts.{Row}
 use Rattle.msgpack_bytes.specs.Kinds.{IsBool, IsArrayHeader, IsMapHeader, IsInteger, Positive, Negative, Unsigned, Signed}
 use Rattle.msgpack_bytes.specs.Answers.{IsHead}
+use Rattle.msgpack_bytes.proofs.Contained.{row_items, pairs_map}
 use Rattle.msgpack_bytes.proofs.Sound.{positive_shape, negative_shape}
-use Rattle.msgpack_bytes.specs.Containers.{IsPart, Pair, IsPair, pair_bytes, IsArray, IsMap}
+use Rattle.msgpack_bytes.specs.Containers.{Pair, IsPair, pair_bytes, IsArray, IsMap}
 use Rattle.event_modes.proofs.Parting.{same_front, item_cases, scalar_is_item, text_item}
 use Rattle.event_modes.proofs.Begins.{family_of, family_in, BeginsAs, begins_one, begins_front, spells_begins, header_begins, one_header, array_begins, map_begins, nil_begins, int_begins}
 
@@ -120,20 +121,13 @@ spells_all k item front back content t s e =
 
 -- ---- arrays
 
--- parts in a row are a list of parts
-pub row_items : (n : ℕ) (inner : List ℕ) → Row (Item 63) n inner → (items : List (List ℕ)) × (n ≡ length items) × AllByRecursion IsPart items × (inner ≡ concat items)
-row_items zero inner p = ([], refl, tt, p)
-row_items (suc n) inner p =
-    let r = row_items n p.1 p.3 in
-    (p.0 ∷ r.0, ap suc r.1, (record { item = p.2 }, r.2), p.4 ∙ ap (λ (z : List ℕ). p.0 ++ z) r.3)
-
 pub is_array : (item : List ℕ) (count next : ℕ) → IsItemWithin item → IsHead item 0 (Some (head.Array count next))
     → (items : List (List ℕ)) × IsArray items item × (count ≡ length items) × (drop next item ≡ concat items)
 is_array item count next t p =
     let e = span_front item next in
-    let r = row_items count (drop next item) (container_parts container.Array count (slice_range item 0 next) (drop next item) (subst IsItemWithin e t) p.2) in
+    let r = row_items (Item 63) count (drop next item) (container_parts container.Array count (slice_range item 0 next) (drop next item) (subst IsItemWithin e t) p.2) in
     let header : IsArrayHeader (length r.0) (slice_range item 0 next) = subst (λ (n : ℕ). IsArrayHeader n (slice_range item 0 next)) r.1 p.2 in
-    (r.0, record { header = slice_range item 0 next; counted = header; each = r.2; whole = e ∙ ap (λ (z : List ℕ). slice_range item 0 next ++ z) r.3 }, r.1, r.3)
+    (r.0, record { header = slice_range item 0 next; counted = header; all = refl; each = r.2; whole = e ∙ ap (λ (z : List ℕ). slice_range item 0 next ++ z) r.3 }, r.1, r.3)
 
 pub no_array : (item : List ℕ) (h : Head) → IsHead item 0 (Some h) → ((c n : ℕ) → h ≡ head.Array c n → ⊥) → (items : List (List ℕ)) → IsArray items item → ⊥
 no_array item (head.Array c n) p none items a = none c n refl
@@ -150,7 +144,7 @@ row_pairs (suc n) inner p =
     let r = row_pairs n q.3.1 q.3.3 in (
       record { key = q.0; value = q.3.0 } ∷ r.0,
       ap suc r.1,
-      (record { key = record { item = q.2 }; value = record { item = q.3.2 } }, r.2),
+      (record { key = q.2; value = q.3.2 }, r.2),
       q.4 ∙ ap (λ (z : List ℕ). q.0 ++ z) (q.3.4 ∙ ap (λ (z : List ℕ). q.3.0 ++ z) r.3) ∙ sym (append_assoc q.0 q.3.0 (flat_map pair_bytes r.0)),
     )
 
@@ -160,7 +154,7 @@ is_map item count next t p =
     let e = span_front item next in
     let r = row_pairs count (drop next item) (container_parts container.Map count (slice_range item 0 next) (drop next item) (subst IsItemWithin e t) p.2) in
     let header : IsMapHeader (length r.0) (slice_range item 0 next) = subst (λ (n : ℕ). IsMapHeader n (slice_range item 0 next)) r.1 p.2 in
-    (r.0, record { header = slice_range item 0 next; counted = header; each = r.2; whole = e ∙ ap (λ (z : List ℕ). slice_range item 0 next ++ z) r.3 }, r.1, r.3)
+    (r.0, pairs_map r.0 item (record { header = slice_range item 0 next; counted = header; each = r.2; whole = e ∙ ap (λ (z : List ℕ). slice_range item 0 next ++ z) r.3 }), r.1, r.3)
 
 pub no_map : (item : List ℕ) (h : Head) → IsHead item 0 (Some h) → ((c n : ℕ) → h ≡ head.Map c n → ⊥) → (pairs : List Pair) → IsMap pairs item → ⊥
 no_map item (head.Map c n) p none pairs a = none c n refl
@@ -170,9 +164,9 @@ no_map item other p none pairs a = let e = one_family item other 8 p (map_begins
 
 pub integer_scalar : (front : List ℕ) (v : ℤ) → IsInteger front v → IsScalar front
 integer_scalar front v (Positive byte lt e m) =
-    record { kind = kind.PositiveFixint; content = []; spelled = record { header = byte ∷ []; sized = subst (λ (s : Shape). Sizes s kind.PositiveFixint 0 []) (sym (positive_shape byte lt)) (refl, refl, refl); whole = e } }
+    record { kind = kind.PositiveFixint; content = []; spelled = record { header = byte ∷ []; sized = inl (positive_shape byte lt, refl); whole = e } }
 integer_scalar front v (Negative byte le e m) =
-    record { kind = kind.NegativeFixint; content = []; spelled = record { header = byte ∷ []; sized = subst (λ (s : Shape). Sizes s kind.NegativeFixint 0 []) (sym (negative_shape byte le)) (refl, refl, refl); whole = e } }
+    record { kind = kind.NegativeFixint; content = []; spelled = record { header = byte ∷ []; sized = inl (negative_shape byte le, refl); whole = e } }
 integer_scalar front v (Unsigned content s m) = record { kind = kind.Unsigned; content = content; spelled = s }
 integer_scalar front v (Signed content s m) = record { kind = kind.Signed; content = content; spelled = s }
 

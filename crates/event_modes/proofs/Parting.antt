@@ -1,12 +1,15 @@
 -- Items side by side: there is one way to part them.
-use Rattle.std.proofs.Common.{ℕ, zero, suc, ◌≡◌, ◌≤◌, ◌⊎◌, List, [], ◌∷◌, ◌++◌, length, refl, ap, sym, subst, ◌∙◌, arith, append_assoc, inl, inr, Ok}
+use Rattle.std.proofs.Common.{ℕ, ◌≡◌, ◌≤◌, ◌⊎◌, List, [], ◌∷◌, ◌++◌, length, refl, ap, sym, subst, ◌∙◌, arith, append_assoc, inl, inr, Ok}
 use Rattle.std.specs.List.{AllByRecursion, concat}
 use Rattle.std.proofs.lemmas.List.{append_cancel_right, length-append}
 use Rattle.msgpack_bytes.specs.declared.format.Kind.TheVariants as kind
 use Rattle.msgpack_bytes.specs.Format.{shape_of}
-use Rattle.msgpack_bytes.specs.Item.{IsScalarHeader, IsContainerHeader, IsScalar, IsContainer, Row, Item, deepest, longest, IsItemWithin}
+use Rattle.msgpack_bytes.specs.Item.{IsScalarHeader, IsContainerHeader, IsScalar, Item, deepest, longest, IsItemWithin}
+use Rattle.msgpack_bytes.specs.Parts.{HasRow}
 use Rattle.msgpack_bytes.specs.Run.{run}
 use Rattle.msgpack_bytes.proofs.Items.{item_read}
+use Rattle.msgpack_bytes.proofs.Contained.{item_cases as cases_of, row_item}
+use Rattle.msgpack_bytes.proofs.Mended.{deeper}
 use Rattle.msgpack_bytes.specs.Containers.{IsPart}
 
 -- an item of any length
@@ -28,21 +31,9 @@ pub same_front : (a b x y : List ℕ) → IsItem a → IsItem b → a ++ x ≡ b
 same_front a b x y p q e =
     append_cancel_right a b y (ap (λ (z : List ℕ). a ++ z) (sym (same_behind a b x y p q e)) ∙ e)
 
-row_map : (P Q : List ℕ → Type 0) → ((x : List ℕ) → P x → Q x) → (n : ℕ) (bytes : List ℕ) → Row P n bytes → Row Q n bytes
-row_map P Q f zero bytes r = r
-row_map P Q f (suc n) bytes r = (r.0, r.1, f r.0 r.2, row_map P Q f n r.1 r.3, r.4)
-
-deeper : (depth : ℕ) (bytes : List ℕ) → Item depth bytes → Item (suc depth) bytes
-unfolding Item
-deeper zero bytes p = inl p
-deeper (suc depth) bytes (inl s) = inl s
-deeper (suc depth) bytes (inr c) =
-    inr (record { container = c.container; n = c.n; header = c.header; inner = c.inner; counted = c.counted; parts = row_map (Item depth) (Item (suc depth)) (deeper depth) _ c.inner c.parts; whole = c.whole })
-
 -- an item is a scalar, or a container of parts
-pub item_cases : (bytes : List ℕ) → IsItem bytes → IsScalar bytes ⊎ IsContainer (Item 63) bytes
-unfolding Item
-item_cases bytes p = p.item
+pub item_cases : (bytes : List ℕ) → IsItem bytes → IsScalar bytes ⊎ HasRow (Item 63) bytes
+item_cases bytes p = cases_of 63 bytes p.item
 
 pub scalar_is_item : (bytes : List ℕ) → IsScalar bytes → Item deepest bytes
 unfolding Item
@@ -52,16 +43,15 @@ pub scalar_is_part : (bytes : List ℕ) → IsScalar bytes → Item 63 bytes
 unfolding Item
 scalar_is_part bytes s = inl s
 
-pub container_is_item : (bytes : List ℕ) → IsContainer (Item 63) bytes → Item deepest bytes
-unfolding Item
-container_is_item bytes c = inr c
+pub container_is_item : (bytes : List ℕ) → HasRow (Item 63) bytes → Item deepest bytes
+container_is_item bytes c = row_item 63 bytes c
 
 pub all_map : {X : Type 0} (P Q : X → Type 0) (xs : List X) → ((x : X) → P x → Q x) → AllByRecursion P xs → AllByRecursion Q xs
 all_map P Q [] f p = tt
 all_map P Q (x ∷ xs) f p = (f x p.0, all_map P Q xs f p.1)
 
 pub part_item : (bytes : List ℕ) → IsPart bytes → IsItem bytes
-part_item bytes p = record { item = deeper 63 bytes p.item }
+part_item bytes p = record { item = deeper 63 bytes p }
 
 pub text_item : (bytes : List ℕ) → IsItemWithin bytes → IsItem bytes
 text_item bytes t = record { item = t.item }
@@ -93,7 +83,7 @@ some_item p = elim (item_cases [] p) [
 pub nil_item : IsItemWithin (0xc0 ∷ [])
 unfolding shape_of
 nil_item = record {
-  item = scalar_is_item (0xc0 ∷ []) (record { kind = kind.Nil; content = []; spelled = record { header = 0xc0 ∷ []; sized = (refl, refl, refl); whole = refl } });
+  item = scalar_is_item (0xc0 ∷ []) (record { kind = kind.Nil; content = []; spelled = record { header = 0xc0 ∷ []; sized = inl (refl, refl); whole = refl } });
   short = omega arith;
 }
 

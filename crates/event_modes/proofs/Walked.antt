@@ -14,20 +14,7 @@ use Rattle.event_modes.specs.Options.{IsFit}
 use Rattle.event_modes.specs.Pairs.{ArePairs, pair_of}
 use Rattle.event_modes.specs.Faults.{FirstBad, PairFault}
 use Rattle.msgpack_bytes.proofs.Walk.{all_with}
-use Rattle.event_modes.proofs.Begins.{same_pair}
-
--- keys and values by turns are those of one list of pairs
-pub pairs_back : (ps qs : List Pair) → pair_items ps ≡ pair_items qs → ps ≡ qs
-pairs_back [] [] e = refl
-pairs_back [] (q ∷ qs) e = absurd cc
-pairs_back (p ∷ ps) [] e = absurd cc
-pairs_back (p ∷ ps) (q ∷ qs) e =
-    let t : pair_items ps ≡ pair_items qs = cc in
-    let r = pairs_back ps qs t in
-    let k : p.key ≡ q.key = cc in
-    let v : p.value ≡ q.value = cc in
-    let s = same_pair p q k v in
-    cc
+use Rattle.event_modes.proofs.Begins.{same_pair, pairs_back}
 
 -- where the walk is: the pairs before, and those that are left
 pub record Walk (all left : List (List ℕ)) : Type 0 where

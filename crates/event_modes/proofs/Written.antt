@@ -5,11 +5,12 @@ use Rattle.std.specs.List.{AllByRecursion, AllZip, concat}
 use Rattle.std.proofs.lemmas.List.{append-nil, length-append}
 use Rattle.msgpack_bytes.specs.declared.format.Kind.TheVariants as kind
 use Rattle.msgpack_bytes.specs.declared.format.Container.TheVariants as container
-use Rattle.msgpack_bytes.specs.Item.{IsScalar, IsContainer, Item, longest, IsItemWithin}
+use Rattle.msgpack_bytes.specs.Item.{IsScalar, Item, longest, IsItemWithin}
 use Rattle.msgpack_bytes.specs.Kinds.{IsStr, IsBin, IsText, IsArrayHeader, IsMapHeader}
 use Rattle.msgpack_bytes.specs.Spelling.{uint_of, str_header_of, str_of, bin_of, array_header_of, map_header_of}
 use Rattle.msgpack_bytes.proofs.Shortest.{str_spelled, bin_spelled, array_spelled, map_spelled, uint_spelled}
 use Rattle.msgpack_bytes.specs.Containers.{IsPart}
+use Rattle.msgpack_bytes.proofs.Contained.{row_item, pairs_map}
 use Rattle.event_modes.specs.Entry.{IsEntry}
 use Rattle.event_modes.specs.Rows.{IsStored}
 use Rattle.msgpack_bytes.specs.Names.{IsNamed}
@@ -29,16 +30,12 @@ unfolding Item
 scalar_at zero bytes s = s
 scalar_at (suc depth) bytes s = inl s
 
-container_at : (depth : ℕ) (bytes : List ℕ) → IsContainer (Item depth) bytes → Item (suc depth) bytes
-unfolding Item
-container_at depth bytes c = inr c
-
 text_scalar : (bytes content : List ℕ) → IsText bytes content → IsScalar bytes
 text_scalar bytes content (inl s) = record { kind = kind.Str; content = content; spelled = s }
 text_scalar bytes content (inr s) = record { kind = kind.Bin; content = content; spelled = s }
 
 scalar_part : (bytes : List ℕ) → IsScalar bytes → IsPart bytes
-scalar_part bytes s = record { item = scalar_at 63 bytes s }
+scalar_part bytes s = scalar_at 63 bytes s
 
 -- ---- the option
 
@@ -69,20 +66,18 @@ size_alone : (h k c : List ℕ) → IsMapHeader 1 h → IsText k (codes "size") 
 size_alone h k c m t s =
     let ks = text_scalar k (codes "size") t in
     record {
-      part = record {
-        item = container_at 62 (h ++ (k ++ c)) (record {
-          container = container.Map;
-          n = 1;
-          header = h;
-          inner = k ++ c;
-          counted = m;
-          parts = (k, c, scalar_at 62 k ks, (c, [], scalar_at 62 c s, refl, sym (append-nil c)), refl);
-          whole = refl;
-        });
-      };
+      part = row_item 62 (h ++ (k ++ c)) (record {
+        container = container.Map;
+        n = 1;
+        header = h;
+        inner = k ++ c;
+        counted = m;
+        parts = (k, c, scalar_at 62 k ks, (c, [], scalar_at 62 c s, refl, sym (append-nil c)), refl);
+        whole = refl;
+      });
       asks = inr (
         pair_of k c ∷ [],
-        record { header = h; counted = m; each = (record { key = scalar_part k ks; value = scalar_part c s }, tt); whole = ap (λ (z : List ℕ). h ++ z) (sym (append-nil (k ++ c))) },
+        pairs_map (pair_of k c ∷ []) (h ++ (k ++ c)) (record { header = h; counted = m; each = (record { key = scalar_part k ks; value = scalar_part c s }, tt); whole = ap (λ (z : List ℕ). h ++ z) (sym (append-nil (k ++ c))) }),
         (size_fit k c t, tt),
         inl (no_chunk k c t, tt),
       );
@@ -94,25 +89,23 @@ size_and_chunk h k c j v content m t s u w l =
     let js = text_scalar j (codes "chunk") u in
     let vs = text_scalar v content w in
     record {
-      part = record {
-        item = container_at 62 (h ++ (k ++ (c ++ (j ++ v)))) (record {
-          container = container.Map;
-          n = 2;
-          header = h;
-          inner = k ++ (c ++ (j ++ v));
-          counted = m;
-          parts = (k, c ++ (j ++ v), scalar_at 62 k ks, (c, j ++ v, scalar_at 62 c s, (j, v, scalar_at 62 j js, (v, [], scalar_at 62 v vs, refl, sym (append-nil v)), refl), refl), refl);
-          whole = refl;
-        });
-      };
+      part = row_item 62 (h ++ (k ++ (c ++ (j ++ v)))) (record {
+        container = container.Map;
+        n = 2;
+        header = h;
+        inner = k ++ (c ++ (j ++ v));
+        counted = m;
+        parts = (k, c ++ (j ++ v), scalar_at 62 k ks, (c, j ++ v, scalar_at 62 c s, (j, v, scalar_at 62 j js, (v, [], scalar_at 62 v vs, refl, sym (append-nil v)), refl), refl), refl);
+        whole = refl;
+      });
       asks = inr (
         pair_of k c ∷ pair_of j v ∷ [],
-        record {
+        pairs_map (pair_of k c ∷ pair_of j v ∷ []) (h ++ (k ++ (c ++ (j ++ v)))) (record {
           header = h;
           counted = m;
           each = (record { key = scalar_part k ks; value = scalar_part c s }, (record { key = scalar_part j js; value = scalar_part v vs }, tt));
           whole = ap (λ (z : List ℕ). h ++ z) (ap (λ (z : List ℕ). k ++ (c ++ z)) (sym (append-nil (j ++ v))) ∙ sym (append_assoc k c ((j ++ v) ++ [])));
-        },
+        }),
         (size_fit k c t, (chunk_fit j v content u w l, tt)),
         (record { before = pair_of k c ∷ []; key = j; after = []; named = u; last = tt; whole = refl }, no_text_nil v content w),
       );
@@ -137,7 +130,7 @@ whole_message h t b o tag entries ack m s c w st lt l =
           header = h;
           inner = t ++ (b ++ o);
           counted = m;
-          parts = (t, b ++ o, tp.item, (b, o, bp.item, (o, [], w.part.item, refl, sym (append-nil o)), refl), refl);
+          parts = (t, b ++ o, tp, (b, o, bp, (o, [], w.part, refl, sym (append-nil o)), refl), refl);
           whole = refl;
         });
         short = l;
@@ -145,7 +138,7 @@ whole_message h t b o tag entries ack m s c w st lt l =
       frame = record { tag = t; carrier = Packed (concat entries); option = Some o };
       framed = record {
         elements = t ∷ b ∷ o ∷ [];
-        array = record { header = h; counted = m; each = (tp, (bp, (w.part, tt))); whole = ap (λ (z : List ℕ). h ++ (t ++ (b ++ z))) (sym (append-nil o)) };
+        array = record { header = h; counted = m; all = refl; each = (tp, (bp, (w.part, tt))); whole = ap (λ (z : List ℕ). h ++ (t ++ (b ++ z))) (sym (append-nil o)) };
         laid_out = (b, refl, inr c);
       };
       tag = (inl s, lt);
