@@ -8,15 +8,17 @@ use Rattle.msgpack_bytes.specs.Format.{shape_of}
 use Rattle.msgpack_bytes.specs.Parts.{HasRow}
 use Rattle.msgpack_bytes.specs.Item.{IsContainerHeader, Item, longest, IsItemWithin}
 use Rattle.event_modes.specs.declared.fault.ModeFault.{ModeFault}
+use Rattle.event_modes.specs.declared.fault.ModeFault.TheVariants.{NotAMessage, BadTag, BadTime, BadRecord, BadEntry, TornPacked, Compressed, BadOption, Bytes}
 use Rattle.msgpack_bytes.specs.Containers.{IsPart, IsArray}
 use Rattle.event_modes.specs.Entry.{IsTime, IsRecord, stored_entry, IsEntry}
 use Rattle.event_modes.specs.Rows.{IsStored}
 use Rattle.event_modes.specs.Message.{Forward, Packed, Carries}
-use Rattle.event_modes.specs.Faults.{EntryFault, IsGoodEntry, PackedEnd, CarriedFault}
+use Rattle.event_modes.specs.Faults.{FirstBad, EntryFault, IsGoodEntry, PackedEnd, PackedFault, CarriedFault}
 use Rattle.event_modes.proofs.Parting.{part_item, container_is_item, text_item, some_item}
 use Rattle.event_modes.proofs.Counted.{element_texts}
 use Rattle.msgpack_bytes.proofs.Walk.{all_with}
 use Rattle.event_modes.proofs.Stored.{concat-push}
+use Rattle.event_modes.proofs.Firsts.{bad_behind}
 
 -- ---- an event as it is stored
 
@@ -101,9 +103,13 @@ pub forward_end : (array : List ℕ) (left entries : List (List ℕ)) → Collec
 forward_end array left entries c e =
     (c.before, subst (λ (xs : List (List ℕ)). IsArray xs array) (ap (λ (xs : List (List ℕ)). c.before ++ xs) e ∙ append-nil c.before) c.is_array, c.each)
 
-pub forward_fault : (array entry : List ℕ) (left others entries : List (List ℕ)) (fault : ModeFault) → Collected array left entries → left ≡ entry ∷ others → EntryFault fault entry → CarriedFault (Forward array) fault
+pub forward_fault : (array entry : List ℕ) (left others entries : List (List ℕ)) (fault : ModeFault) → Collected array left entries → left ≡ entry ∷ others → EntryFault entry fault → CarriedFault (Forward array) fault
 forward_fault array entry left others entries fault c e f =
-    (c.before ++ left, c.is_array, record { before = c.before; first = entry; after = others; good = good_entries c.before entries c.each; bad = f; whole = ap (λ (xs : List (List ℕ)). c.before ++ xs) e })
+    let bad = bad_behind IsGoodEntry (λ (item : List ℕ). EntryFault item fault) c.before entry others (good_entries c.before entries c.each) f in (
+      c.before ++ left,
+      c.is_array,
+      subst (λ (xs : List (List ℕ)). FirstBad IsGoodEntry (λ item. EntryFault item fault) (c.before ++ xs)) (sym e) bad,
+    )
 
 -- ---- packed entries
 
@@ -127,11 +133,23 @@ packed_more content rest entry behind stored entries p t e i = record {
 pub packed_end : (content rest : List ℕ) (entries : List (List ℕ)) → Packing content rest entries → rest ≡ [] → Carries (Packed content) entries
 packed_end content rest entries p e = (p.before, p.texts, p.whole ∙ ap (λ (x : List ℕ). concat p.before ++ x) e ∙ append-nil (concat p.before), p.each)
 
-pub packed_torn : (content rest : List ℕ) (entries : List (List ℕ)) (fault : ModeFault) → Packing content rest entries → (rest ≡ [] → ⊥) → PackedEnd rest fault → CarriedFault (Packed content) fault
-packed_torn content rest entries fault p n f = (p.before, rest, p.texts, good_entries p.before entries p.each, p.whole, (n, inl f))
+-- where packed bytes begin with no whole item, that is the fault
+end_fault : (rest : List ℕ) (fault : ModeFault) → (rest ≡ [] → ⊥) → PackedEnd rest fault → PackedFault rest fault
+end_fault rest TornPacked n p = inl (refl, n, p)
+end_fault rest (Bytes why) n p = inr (inl (why, refl, p))
+end_fault rest NotAMessage n p = absurd p
+end_fault rest BadTag n p = absurd p
+end_fault rest BadTime n p = absurd p
+end_fault rest BadRecord n p = absurd p
+end_fault rest BadEntry n p = absurd p
+end_fault rest Compressed n p = absurd p
+end_fault rest BadOption n p = absurd p
 
-pub packed_bad : (content rest entry behind : List ℕ) (entries : List (List ℕ)) (fault : ModeFault) → Packing content rest entries → (rest ≡ [] → ⊥) → IsItemWithin entry → rest ≡ entry ++ behind → EntryFault fault entry → CarriedFault (Packed content) fault
-packed_bad content rest entry behind entries fault p n t e f = (p.before, rest, p.texts, good_entries p.before entries p.each, p.whole, (n, inr (entry, behind, t, f, e)))
+pub packed_torn : (content rest : List ℕ) (entries : List (List ℕ)) (fault : ModeFault) → Packing content rest entries → (rest ≡ [] → ⊥) → PackedEnd rest fault → CarriedFault (Packed content) fault
+packed_torn content rest entries fault p n f = (p.before, rest, p.texts, good_entries p.before entries p.each, p.whole, end_fault rest fault n f)
+
+pub packed_bad : (content rest entry behind : List ℕ) (entries : List (List ℕ)) (fault : ModeFault) → Packing content rest entries → IsItemWithin entry → rest ≡ entry ++ behind → EntryFault entry fault → CarriedFault (Packed content) fault
+packed_bad content rest entry behind entries fault p t e f = (p.before, rest, p.texts, good_entries p.before entries p.each, p.whole, inr (inr (entry, behind, t, f, e)))
 
 -- taking an item shortens what is left
 pub packed_shorter : (rest entry behind : List ℕ) → IsItemWithin entry → rest ≡ entry ++ behind → length behind < length rest

@@ -8,6 +8,7 @@ pub mod Scans
 pub mod Counted
 pub mod Framed
 pub mod Evented
+pub mod Firsts
 pub mod Stored
 pub mod Walked
 pub mod Collected

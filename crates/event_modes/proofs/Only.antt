@@ -1,8 +1,8 @@
 -- There is one answer to bytes.
-use Rattle.std.proofs.Common.{ℕ, ◌≡◌, ◌⊎◌, List, [], ◌∷◌, ◌++◌, length, take, drop, refl, ap, sym, subst, ◌∙◌, arith, append_assoc, inl, inr, Option, Some, None}
+use Rattle.std.proofs.Common.{ℕ, ◌≡◌, List, [], ◌∷◌, ◌++◌, length, take, drop, refl, ap, sym, subst, ◌∙◌, arith, append_assoc, inl, inr, Option, Some, None}
 use Rattle.std.specs.Prelude.{codes}
 use Rattle.std.specs.List.{AllByRecursion, concat}
-use Rattle.std.proofs.lemmas.List.{take-append-drop, length-append, length-take-le}
+use Rattle.std.proofs.lemmas.List.{take-append-drop, length-take-le}
 use Rattle.msgpack_bytes.specs.declared.answers.MsgFault.{MsgFault}
 use Rattle.msgpack_bytes.specs.declared.answers.Scan.TheVariants as scan
 use Rattle.msgpack_bytes.specs.Item.{IsItemWithin, IsOpen}
@@ -12,16 +12,18 @@ use Rattle.msgpack_bytes.specs.Answers.{Begins}
 use Rattle.msgpack_bytes.proofs.Scanned.{one_answer}
 use Rattle.event_modes.specs.declared.fault.ModeFault.{ModeFault}
 use Rattle.event_modes.specs.declared.fault.ModeFault.TheVariants.{NotAMessage, BadTag, BadTime, BadRecord, BadEntry, TornPacked, Compressed, BadOption, Bytes}
-use Rattle.msgpack_bytes.specs.Containers.{Pair, IsArray}
+use Rattle.msgpack_bytes.specs.Containers.{Pair}
 use Rattle.event_modes.specs.Entry.{IsTime, IsRecord}
 use Rattle.event_modes.specs.Options.{IsFit, IsOption}
 use Rattle.event_modes.specs.Message.{Parts, Carrier, Single, Forward, Packed, Frame, IsTag, Carries, IsMessage}
-use Rattle.event_modes.specs.Faults.{EventFault, EntryFault, IsGoodEntry, PackedEnd, PackedFault, CarriedFault, PairFault, OptionFault, FrameFault, ItemFault, StreamFault}
+use Rattle.event_modes.specs.Faults.{EventFault, EntryFault, IsGoodEntry, BeginsBadly, PackedEnd, PackedFault, CarriedFault, PairFault, OptionFault, FrameFault, ItemFault, StreamFault}
 use Rattle.event_modes.specs.Reading.{Answer, Means, Beats, Wants, Refuses, Answers}
 use Rattle.event_modes.proofs.Parting.{IsItem, same_front, same_behind, some_item, text_item, nil_item, front_nil}
 use Rattle.event_modes.proofs.Collected.{good_entries}
 use Rattle.event_modes.proofs.Begins.{array_one, map_one, text_one, no_array_nil, no_map_nil}
 use Rattle.event_modes.proofs.Scans.{not_open, not_faulty}
+use Rattle.event_modes.proofs.Aheads.{none_open}
+use Rattle.event_modes.proofs.Firsts.{parted}
 use Rattle.event_modes.proofs.One.{frame_one, means_one, never_both}
 
 -- ---- no item begins with the bytes
@@ -52,103 +54,51 @@ none_bad Good Bad (x ∷ b) p d n g r = none_bad Good Bad b p d n g.1 r
 -- ---- events
 
 event_one : (time fields : List ℕ) (f g : ModeFault) → EventFault time fields f → EventFault time fields g → f ≡ g
-event_one time fields BadTime BadTime p q = refl
-event_one time fields BadTime BadRecord p q = absurd (p q.0)
-event_one time fields BadRecord BadTime p q = absurd (q p.0)
-event_one time fields BadRecord BadRecord p q = refl
-event_one time fields NotAMessage g p q = absurd p
-event_one time fields BadTag g p q = absurd p
-event_one time fields BadEntry g p q = absurd p
-event_one time fields TornPacked g p q = absurd p
-event_one time fields Compressed g p q = absurd p
-event_one time fields BadOption g p q = absurd p
-event_one time fields (Bytes m) g p q = absurd p
-event_one time fields BadTime NotAMessage p q = absurd q
-event_one time fields BadTime BadTag p q = absurd q
-event_one time fields BadTime BadEntry p q = absurd q
-event_one time fields BadTime TornPacked p q = absurd q
-event_one time fields BadTime Compressed p q = absurd q
-event_one time fields BadTime BadOption p q = absurd q
-event_one time fields BadTime (Bytes m) p q = absurd q
-event_one time fields BadRecord NotAMessage p q = absurd q
-event_one time fields BadRecord BadTag p q = absurd q
-event_one time fields BadRecord BadEntry p q = absurd q
-event_one time fields BadRecord TornPacked p q = absurd q
-event_one time fields BadRecord Compressed p q = absurd q
-event_one time fields BadRecord BadOption p q = absurd q
-event_one time fields BadRecord (Bytes m) p q = absurd q
+event_one time fields f g (inl p) (inl q) = p.0 ∙ sym q.0
+event_one time fields f g (inl p) (inr q) = absurd (p.1 q.1)
+event_one time fields f g (inr p) (inl q) = absurd (q.1 p.1)
+event_one time fields f g (inr p) (inr q) = p.0 ∙ sym q.0
 
 good_event : (time fields : List ℕ) (f : ModeFault) → IsTime time → IsRecord fields → EventFault time fields f → ⊥
-good_event time fields BadTime t r p = p t
-good_event time fields BadRecord t r p = p.1 r
-good_event time fields NotAMessage t r p = p
-good_event time fields BadTag t r p = p
-good_event time fields BadEntry t r p = p
-good_event time fields TornPacked t r p = p
-good_event time fields Compressed t r p = p
-good_event time fields BadOption t r p = p
-good_event time fields (Bytes m) t r p = p
+good_event time fields f t r (inl p) = p.1 t
+good_event time fields f t r (inr p) = p.2 r
 
--- the fault of an entry: it is no array of two, or a fault of what stands in it
-entry_cases : (bytes : List ℕ) (f : ModeFault) → EntryFault f bytes
-    → ((f ≡ BadEntry) × ((time fields : List ℕ) → IsArray (time ∷ fields ∷ []) bytes → ⊥))
-    ⊎ ((time : List ℕ) × (fields : List ℕ) × IsArray (time ∷ fields ∷ []) bytes × EventFault time fields f)
-entry_cases bytes BadEntry p = inl (refl, p)
-entry_cases bytes f p = inr p
+entry_one : (bytes : List ℕ) (f g : ModeFault) → EntryFault bytes f → EntryFault bytes g → f ≡ g
+entry_one bytes f g (inl a) (inl b) = a.0 ∙ sym b.0
+entry_one bytes f g (inl a) (inr b) = absurd (a.1 b.0 b.1 b.2)
+entry_one bytes f g (inr a) (inl b) = absurd (b.1 a.0 a.1 a.2)
+entry_one bytes f g (inr a) (inr b) =
+    let e = array_one (a.0 ∷ a.1 ∷ []) (b.0 ∷ b.1 ∷ []) bytes a.2 b.2 in
+    let t : a.0 ≡ b.0 = cc in
+    let r : a.1 ≡ b.1 = cc in
+    event_one b.0 b.1 f g (subst (λ (z : List ℕ). EventFault b.0 z f) r (subst (λ (z : List ℕ). EventFault z a.1 f) t a.3)) b.3
 
-entry_one : (bytes : List ℕ) (f g : ModeFault) → EntryFault f bytes → EntryFault g bytes → f ≡ g
-entry_one bytes f g p q = cases (entry_cases bytes f p) (entry_cases bytes g q)
-  where
-    cases : ((f ≡ BadEntry) × ((time fields : List ℕ) → IsArray (time ∷ fields ∷ []) bytes → ⊥)) ⊎ ((time : List ℕ) × (fields : List ℕ) × IsArray (time ∷ fields ∷ []) bytes × EventFault time fields f)
-        → ((g ≡ BadEntry) × ((time fields : List ℕ) → IsArray (time ∷ fields ∷ []) bytes → ⊥)) ⊎ ((time : List ℕ) × (fields : List ℕ) × IsArray (time ∷ fields ∷ []) bytes × EventFault time fields g) → f ≡ g
-    cases (inl a) (inl b) = a.0 ∙ sym b.0
-    cases (inl a) (inr b) = absurd (a.1 b.0 b.1 b.2)
-    cases (inr a) (inl b) = absurd (b.1 a.0 a.1 a.2)
-    cases (inr a) (inr b) =
-        let e = array_one (a.0 ∷ a.1 ∷ []) (b.0 ∷ b.1 ∷ []) bytes a.2 b.2 in
-        let t : a.0 ≡ b.0 = cc in
-        let r : a.1 ≡ b.1 = cc in
-        event_one b.0 b.1 f g (subst (λ (z : List ℕ). EventFault b.0 z f) r (subst (λ (z : List ℕ). EventFault z a.1 f) t a.3)) b.3
+pub good_entry : (f : ModeFault) (bytes : List ℕ) → IsGoodEntry bytes → EntryFault bytes f → ⊥
+good_entry f bytes s (inl a) = a.1 s.1.time s.1.fields s.1.array
+good_entry f bytes s (inr a) =
+    let e = array_one (a.0 ∷ a.1 ∷ []) (s.1.time ∷ s.1.fields ∷ []) bytes a.2 s.1.array in
+    let t : a.0 ≡ s.1.time = cc in
+    let r : a.1 ≡ s.1.fields = cc in
+    good_event a.0 a.1 f (subst IsTime (sym t) s.1.is_time) (subst IsRecord (sym r) s.1.is_record) a.3
 
-pub good_entry : (f : ModeFault) (bytes : List ℕ) → IsGoodEntry bytes → EntryFault f bytes → ⊥
-good_entry f bytes s p = cases (entry_cases bytes f p)
-  where
-    cases : ((f ≡ BadEntry) × ((time fields : List ℕ) → IsArray (time ∷ fields ∷ []) bytes → ⊥)) ⊎ ((time : List ℕ) × (fields : List ℕ) × IsArray (time ∷ fields ∷ []) bytes × EventFault time fields f) → ⊥
-    cases (inl a) = a.1 s.1.time s.1.fields s.1.array
-    cases (inr a) =
-        let e = array_one (a.0 ∷ a.1 ∷ []) (s.1.time ∷ s.1.fields ∷ []) bytes a.2 s.1.array in
-        let t : a.0 ≡ s.1.time = cc in
-        let r : a.1 ≡ s.1.fields = cc in
-        good_event a.0 a.1 f (subst IsTime (sym t) s.1.is_time) (subst IsRecord (sym r) s.1.is_record) a.3
+-- ---- bytes that begin badly
+
+-- they have one fault, where an item has one
+badly_one : (ItsFault : List ℕ → ModeFault → Type 0) → ((item : List ℕ) (f g : ModeFault) → ItsFault item f → ItsFault item g → f ≡ g)
+    → (bytes : List ℕ) (f g : ModeFault) → BeginsBadly ItsFault bytes f → BeginsBadly ItsFault bytes g → f ≡ g
+badly_one ItsFault one bytes f g (inl p) (inl q) = p.1 ∙ ap (λ (x : MsgFault). Bytes x) (fault_one bytes p.0 q.0 p.2 q.2) ∙ sym q.1
+badly_one ItsFault one bytes f g (inl p) (inr q) = absurd (not_faulty p.0 bytes (record { front = q.0; back = q.1; is = q.2; whole = q.4 }) p.2)
+badly_one ItsFault one bytes f g (inr p) (inl q) = absurd (not_faulty q.0 bytes (record { front = p.0; back = p.1; is = p.2; whole = p.4 }) q.2)
+badly_one ItsFault one bytes f g (inr p) (inr q) =
+    let e = same_front p.0 q.0 p.1 q.1 (text_item p.0 p.2) (text_item q.0 q.2) (sym p.4 ∙ q.4) in
+    one q.0 f g (subst (λ (z : List ℕ). ItsFault z f) e p.3) q.3
+
+-- and are not open
+badly_closed : (ItsFault : List ℕ → ModeFault → Type 0) (bytes : List ℕ) (f : ModeFault) → IsOpen bytes → BeginsBadly ItsFault bytes f → ⊥
+badly_closed ItsFault bytes f o (inl p) = open_faultless bytes p.0 o p.2
+badly_closed ItsFault bytes f o (inr p) = not_open bytes (record { front = p.0; back = p.1; is = p.2; whole = p.4 }) o
 
 -- ---- packed entries
-
-end_one : (rest : List ℕ) (f g : ModeFault) → PackedEnd rest f → PackedEnd rest g → f ≡ g
-end_one rest TornPacked TornPacked p q = refl
-end_one rest TornPacked (Bytes n) p q = absurd (open_faultless rest n p q)
-end_one rest (Bytes m) TornPacked p q = absurd (open_faultless rest m q p)
-end_one rest (Bytes m) (Bytes n) p q = ap (λ (x : MsgFault). Bytes x) (fault_one rest m n p q)
-end_one rest NotAMessage g p q = absurd p
-end_one rest BadTag g p q = absurd p
-end_one rest BadTime g p q = absurd p
-end_one rest BadRecord g p q = absurd p
-end_one rest BadEntry g p q = absurd p
-end_one rest Compressed g p q = absurd p
-end_one rest BadOption g p q = absurd p
-end_one rest TornPacked NotAMessage p q = absurd q
-end_one rest TornPacked BadTag p q = absurd q
-end_one rest TornPacked BadTime p q = absurd q
-end_one rest TornPacked BadRecord p q = absurd q
-end_one rest TornPacked BadEntry p q = absurd q
-end_one rest TornPacked Compressed p q = absurd q
-end_one rest TornPacked BadOption p q = absurd q
-end_one rest (Bytes m) NotAMessage p q = absurd q
-end_one rest (Bytes m) BadTag p q = absurd q
-end_one rest (Bytes m) BadTime p q = absurd q
-end_one rest (Bytes m) BadRecord p q = absurd q
-end_one rest (Bytes m) BadEntry p q = absurd q
-end_one rest (Bytes m) Compressed p q = absurd q
-end_one rest (Bytes m) BadOption p q = absurd q
 
 -- where packed bytes end so, they begin with no item
 pub no_begin : (rest : List ℕ) (f : ModeFault) → PackedEnd rest f → Begins IsItemWithin rest → ⊥
@@ -162,30 +112,27 @@ no_begin rest BadEntry p b = p
 no_begin rest Compressed p b = p
 no_begin rest BadOption p b = p
 
-packed_one : (rest : List ℕ) (f g : ModeFault) → PackedFault f rest → PackedFault g rest → f ≡ g
-packed_one rest f g p q = cases p.1 q.1
-  where
-    cases : PackedEnd rest f ⊎ ((item : List ℕ) × (more : List ℕ) × IsItemWithin item × EntryFault f item × (rest ≡ item ++ more))
-        → PackedEnd rest g ⊎ ((item : List ℕ) × (more : List ℕ) × IsItemWithin item × EntryFault g item × (rest ≡ item ++ more)) → f ≡ g
-    cases (inl a) (inl b) = end_one rest f g a b
-    cases (inl a) (inr b) = absurd (no_begin rest f a (record { front = b.0; back = b.1; is = b.2; whole = b.4 }))
-    cases (inr a) (inl b) = absurd (no_begin rest g b (record { front = a.0; back = a.1; is = a.2; whole = a.4 }))
-    cases (inr a) (inr b) =
-        let e = same_front a.0 b.0 a.1 b.1 (text_item a.0 a.2) (text_item b.0 b.2) (sym a.4 ∙ b.4) in
-        entry_one b.0 f g (subst (EntryFault f) e a.3) b.3
+packed_one : (rest : List ℕ) (f g : ModeFault) → PackedFault rest f → PackedFault rest g → f ≡ g
+packed_one rest f g (inl p) (inl q) = p.0 ∙ sym q.0
+packed_one rest f g (inl p) (inr q) = absurd (badly_closed EntryFault rest g p.2 q)
+packed_one rest f g (inr p) (inl q) = absurd (badly_closed EntryFault rest f q.2 p)
+packed_one rest f g (inr p) (inr q) = badly_one EntryFault entry_one rest f g p q
 
 -- what begins with a good entry has no fault there
-good_front : (rest entry more : List ℕ) (f : ModeFault) → IsItemWithin entry → IsGoodEntry entry → rest ≡ entry ++ more → PackedFault f rest → ⊥
-good_front rest entry more f t g e p = cases p.1
-  where
-    cases : PackedEnd rest f ⊎ ((item : List ℕ) × (behind : List ℕ) × IsItemWithin item × EntryFault f item × (rest ≡ item ++ behind)) → ⊥
-    cases (inl a) = no_begin rest f a (record { front = entry; back = more; is = t; whole = e })
-    cases (inr a) =
-        let s = same_front a.0 entry a.1 more (text_item a.0 a.2) (text_item entry t) (sym a.4 ∙ e) in
-        good_entry f entry g (subst (EntryFault f) s a.3)
+good_front : (rest entry more : List ℕ) (f : ModeFault) → IsItemWithin entry → IsGoodEntry entry → rest ≡ entry ++ more → PackedFault rest f → ⊥
+good_front rest entry more f t g e (inl p) = not_open rest (record { front = entry; back = more; is = t; whole = e }) p.2
+good_front rest entry more f t g e (inr (inl p)) = not_faulty p.0 rest (record { front = entry; back = more; is = t; whole = e }) p.2
+good_front rest entry more f t g e (inr (inr p)) =
+    let s = same_front p.0 entry p.1 more (text_item p.0 p.2) (text_item entry t) (sym p.4 ∙ e) in
+    good_entry f entry g (subst (λ (z : List ℕ). EntryFault z f) s p.3)
+
+-- where nothing is left there is none
+nothing_left : (rest : List ℕ) (f : ModeFault) → rest ≡ [] → PackedFault rest f → ⊥
+nothing_left rest f e (inl p) = p.1 e
+nothing_left rest f e (inr p) = badly_closed EntryFault rest f (subst IsOpen (sym e) none_open) p
 
 packed_rest : (xs ys : List (List ℕ)) (r s : List ℕ) (f g : ModeFault) → AllByRecursion IsItemWithin xs → AllByRecursion IsGoodEntry xs → AllByRecursion IsItemWithin ys → AllByRecursion IsGoodEntry ys
-    → concat xs ++ r ≡ concat ys ++ s → PackedFault f r → PackedFault g s → r ≡ s
+    → concat xs ++ r ≡ concat ys ++ s → PackedFault r f → PackedFault s g → r ≡ s
 packed_rest [] [] r s f g t a u b e p q = e
 packed_rest [] (y ∷ ys) r s f g t a u b e p q = absurd (good_front r y (concat ys ++ s) f u.0 b.0 (e ∙ append_assoc y (concat ys) s) p)
 packed_rest (x ∷ xs) [] r s f g t a u b e p q = absurd (good_front s x (concat xs ++ r) g t.0 a.0 (sym e ∙ append_assoc x (concat xs) r) q)
@@ -194,8 +141,8 @@ packed_rest (x ∷ xs) (y ∷ ys) r s f g t a u b e p q =
     packed_rest xs ys r s f g t.1 a.1 u.1 b.1 (same_behind x y (concat xs ++ r) (concat ys ++ s) (text_item x t.0) (text_item y u.0) d) p q
 
 -- all of the content is good entries, or there is a fault behind some
-packed_good : (xs ys : List (List ℕ)) (r : List ℕ) (f : ModeFault) → AllByRecursion IsItemWithin xs → AllByRecursion IsGoodEntry xs → AllByRecursion IsItemWithin ys → concat xs ≡ concat ys ++ r → PackedFault f r → ⊥
-packed_good [] [] r f t g u e p = p.0 (sym e)
+packed_good : (xs ys : List (List ℕ)) (r : List ℕ) (f : ModeFault) → AllByRecursion IsItemWithin xs → AllByRecursion IsGoodEntry xs → AllByRecursion IsItemWithin ys → concat xs ≡ concat ys ++ r → PackedFault r f → ⊥
+packed_good [] [] r f t g u e p = nothing_left r f (sym e) p
 packed_good [] (y ∷ ys) r f t g u e p = some_item (subst IsItem (front_nil y (concat ys ++ r) (sym (e ∙ append_assoc y (concat ys) r))) (text_item y u.0))
 packed_good (x ∷ xs) [] r f t g u e p = good_front r x (concat xs) f t.0 g.0 (sym e) p
 packed_good (x ∷ xs) (y ∷ ys) r f t g u e p =
@@ -207,20 +154,20 @@ carried_one : (c : Carrier) (f g : ModeFault) → CarriedFault c f → CarriedFa
 carried_one (Single time fields) f g p q = event_one time fields f g p q
 carried_one (Forward array) f g p q =
     let e = array_one p.0 q.0 array p.1 q.1 in
-    let b = p.2 in
-    let d = q.2 in
-    let s = first_one IsGoodEntry (EntryFault f) (EntryFault g) b.before d.before b.first d.first b.after d.after (good_entry f) (good_entry g) b.good b.bad d.good d.bad (sym b.whole ∙ e ∙ d.whole) in
-    entry_one d.first f g (subst (EntryFault f) s b.bad) d.bad
+    let b = parted IsGoodEntry (λ (z : List ℕ). EntryFault z f) p.0 p.2 in
+    let d = parted IsGoodEntry (λ (z : List ℕ). EntryFault z g) q.0 q.2 in
+    let s = first_one IsGoodEntry (λ z. EntryFault z f) (λ z. EntryFault z g) b.before d.before b.first d.first b.after d.after (good_entry f) (good_entry g) b.good b.bad d.good d.bad (sym b.whole ∙ e ∙ d.whole) in
+    entry_one d.first f g (subst (λ (z : List ℕ). EntryFault z f) s b.bad) d.bad
 carried_one (Packed content) f g p q =
     let e = packed_rest p.0 q.0 p.1 q.1 f g p.2 p.3 q.2 q.3 (sym p.4 ∙ q.4) p.5 q.5 in
-    packed_one q.1 f g (subst (PackedFault f) e p.5) q.5
+    packed_one q.1 f g (subst (λ (z : List ℕ). PackedFault z f) e p.5) q.5
 
 good_carried : (c : Carrier) (entries : List (List ℕ)) (f : ModeFault) → Carries c entries → CarriedFault c f → ⊥
 good_carried (Single time fields) entries f p q = good_event time fields f p.0 p.1 q
 good_carried (Forward array) entries f p q =
     let e = array_one p.0 q.0 array p.1 q.1 in
-    let b = q.2 in
-    none_bad IsGoodEntry (EntryFault f) b.before b.first b.after (good_entry f) (subst (AllByRecursion IsGoodEntry) (e ∙ b.whole) (good_entries p.0 entries p.2)) b.bad
+    let b = parted IsGoodEntry (λ (z : List ℕ). EntryFault z f) q.0 q.2 in
+    none_bad IsGoodEntry (λ z. EntryFault z f) b.before b.first b.after (good_entry f) (subst (AllByRecursion IsGoodEntry) (e ∙ b.whole) (good_entries p.0 entries p.2)) b.bad
 good_carried (Packed content) entries f p q = packed_good p.0 q.0 q.1 f p.1 (good_entries p.0 entries p.3) q.2 (sym p.2 ∙ q.4) q.5
 
 -- ---- the option
@@ -229,42 +176,14 @@ name_one : (key : List ℕ) → IsText key (codes "chunk") → IsText key (codes
 name_one key p q = let e = ap length (text_one key (codes "chunk") (codes "compressed") p q) in omega arith
 
 pair_one : (pair : Pair) (f g : ModeFault) → PairFault f pair → PairFault g pair → f ≡ g
-pair_one pair BadOption BadOption p q = refl
-pair_one pair BadOption Compressed p q = absurd (name_one pair.key p.0 q.0)
-pair_one pair Compressed BadOption p q = absurd (name_one pair.key q.0 p.0)
-pair_one pair Compressed Compressed p q = refl
-pair_one pair NotAMessage g p q = absurd p
-pair_one pair BadTag g p q = absurd p
-pair_one pair BadTime g p q = absurd p
-pair_one pair BadRecord g p q = absurd p
-pair_one pair BadEntry g p q = absurd p
-pair_one pair TornPacked g p q = absurd p
-pair_one pair (Bytes m) g p q = absurd p
-pair_one pair BadOption NotAMessage p q = absurd q
-pair_one pair BadOption BadTag p q = absurd q
-pair_one pair BadOption BadTime p q = absurd q
-pair_one pair BadOption BadRecord p q = absurd q
-pair_one pair BadOption BadEntry p q = absurd q
-pair_one pair BadOption TornPacked p q = absurd q
-pair_one pair BadOption (Bytes m) p q = absurd q
-pair_one pair Compressed NotAMessage p q = absurd q
-pair_one pair Compressed BadTag p q = absurd q
-pair_one pair Compressed BadTime p q = absurd q
-pair_one pair Compressed BadRecord p q = absurd q
-pair_one pair Compressed BadEntry p q = absurd q
-pair_one pair Compressed TornPacked p q = absurd q
-pair_one pair Compressed (Bytes m) p q = absurd q
+pair_one pair f g (inl p) (inl q) = p.0 ∙ sym q.0
+pair_one pair f g (inl p) (inr q) = absurd (name_one pair.key p.1 q.1)
+pair_one pair f g (inr p) (inl q) = absurd (name_one pair.key q.1 p.1)
+pair_one pair f g (inr p) (inr q) = p.0 ∙ sym q.0
 
 fit_pair : (f : ModeFault) (pair : Pair) → IsFit pair → PairFault f pair → ⊥
-fit_pair BadOption pair p q = q.1 (p.chunk q.0)
-fit_pair Compressed pair p q = q.1 (p.compressed q.0)
-fit_pair NotAMessage pair p q = q
-fit_pair BadTag pair p q = q
-fit_pair BadTime pair p q = q
-fit_pair BadRecord pair p q = q
-fit_pair BadEntry pair p q = q
-fit_pair TornPacked pair p q = q
-fit_pair (Bytes m) pair p q = q
+fit_pair f pair p (inl q) = q.2 (p.chunk q.1)
+fit_pair f pair p (inr q) = q.2 (p.compressed q.1)
 
 option_one : (option : Option (List ℕ)) (f g : ModeFault) → OptionFault option f → OptionFault option g → f ≡ g
 option_one None f g p q = absurd p
@@ -273,8 +192,8 @@ option_one (Some bytes) f g (inl p) (inr q) = absurd (p.2 q.0 q.1)
 option_one (Some bytes) f g (inr p) (inl q) = absurd (q.2 p.0 p.1)
 option_one (Some bytes) f g (inr p) (inr q) =
     let e = map_one p.0 q.0 bytes p.1 q.1 in
-    let b = p.2 in
-    let d = q.2 in
+    let b = parted IsFit (PairFault f) p.0 p.2 in
+    let d = parted IsFit (PairFault g) q.0 q.2 in
     let s = first_one IsFit (PairFault f) (PairFault g) b.before d.before b.first d.first b.after d.after (fit_pair f) (fit_pair g) b.good b.bad d.good d.bad (sym b.whole ∙ e ∙ d.whole) in
     pair_one d.first f g (subst (PairFault f) s b.bad) d.bad
 
@@ -285,7 +204,7 @@ good_option (Some bytes) ack f (inl p) (inr q) = no_map_nil q.0 bytes q.1 p.0
 good_option (Some bytes) ack f (inr p) (inl q) = q.2 p.0 p.1
 good_option (Some bytes) ack f (inr p) (inr q) =
     let e = map_one p.0 q.0 bytes p.1 q.1 in
-    let b = q.2 in
+    let b = parted IsFit (PairFault f) q.0 q.2 in
     none_bad IsFit (PairFault f) b.before b.first b.after (fit_pair f) (subst (AllByRecursion IsFit) (e ∙ b.whole) p.2) b.bad
 
 -- ---- a message's places
@@ -343,13 +262,10 @@ fault_of_item bytes f b (inr p) =
     subst (λ (z : List ℕ). ItemFault z f) (one_front bytes (record { front = p.0; back = p.1; is = p.2; whole = p.4 }) b) p.3
 
 pub stream_one : (bytes : List ℕ) (f g : ModeFault) → StreamFault bytes f → StreamFault bytes g → f ≡ g
-stream_one bytes f g (inl p) (inl q) = p.1 ∙ ap (λ (x : MsgFault). Bytes x) (fault_one bytes p.0 q.0 p.2 q.2) ∙ sym q.1
-stream_one bytes f g (inl p) (inr q) = absurd (not_faulty p.0 bytes (record { front = q.0; back = q.1; is = q.2; whole = q.4 }) p.2)
-stream_one bytes f g (inr p) q = item_one p.0 f g p.3 (fault_of_item bytes g (record { front = p.0; back = p.1; is = p.2; whole = p.4 }) q)
+stream_one bytes f g p q = badly_one ItemFault item_one bytes f g p q
 
 pub open_unfaulted : (bytes : List ℕ) (f : ModeFault) → IsOpen bytes → StreamFault bytes f → ⊥
-open_unfaulted bytes f o (inl p) = open_faultless bytes p.0 o p.2
-open_unfaulted bytes f o (inr p) = not_open bytes (record { front = p.0; back = p.1; is = p.2; whole = p.4 }) o
+open_unfaulted bytes f o p = badly_closed ItemFault bytes f o p
 
 no_message_nil : (bytes rest : List ℕ) (n : ℕ) (parts : Parts) → IsMessage (take n bytes) parts → bytes ≡ 0xc0 ∷ rest → ⊥
 unfolding begins_message begins_nil

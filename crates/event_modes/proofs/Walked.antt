@@ -13,6 +13,7 @@ use Rattle.msgpack_bytes.specs.Names.{IsNamed, HasNoKey, IsLastValue}
 use Rattle.event_modes.specs.Options.{IsFit}
 use Rattle.event_modes.specs.Pairs.{ArePairs, pair_of}
 use Rattle.event_modes.specs.Faults.{FirstBad, PairFault}
+use Rattle.event_modes.proofs.Firsts.{bad_behind}
 use Rattle.msgpack_bytes.proofs.Walk.{all_with}
 use Rattle.event_modes.proofs.Begins.{same_pair, pairs_back}
 
@@ -76,7 +77,7 @@ pub first_bad : (all left : List (List ℕ)) (walk : Walk all left) (key value :
     → left ≡ key ∷ value ∷ others → all ≡ pair_items pairs → AllByRecursion IsFit walk.before → PairFault fault (pair_of key value) → FirstBad IsFit (PairFault fault) pairs
 first_bad all left walk key value others pairs fault e a fit bad =
     let n = next all left walk key value others e in
-    record { before = walk.before; first = pair_of key value; after = n.walk_on.after; good = fit; bad = bad; whole = sym (walking all left walk pairs a) ∙ n.at }
+    subst (FirstBad IsFit (PairFault fault)) (sym n.at ∙ walking all left walk pairs a) (bad_behind IsFit (PairFault fault) walk.before (pair_of key value) n.walk_on.after fit bad)
 
 pub fit_more : (all left : List (List ℕ)) (walk : Walk all left) (key value : List ℕ) (others : List (List ℕ)) (n : Next all left walk key value others) → AllByRecursion IsFit walk.before → IsFit (pair_of key value) → AllByRecursion IsFit n.walk_on.before
 fit_more all left walk key value others n fit p = subst (AllByRecursion IsFit) (sym n.before) (all_with IsFit walk.before (pair_of key value) fit p)

@@ -24,7 +24,7 @@ entry_header = 0x92
 
 -- an event as it is stored: the header, and the time's and the record's bytes as they came
 abbrev pub stored_entry : List ℕ → List ℕ → List ℕ
-stored_entry time fields = entry_header ∷ time ++ fields
+stored_entry time fields = 0x92 ∷ time ++ fields
 
 -- "Entry": an array of a time and a record, and how it is stored
 pub record IsEntry (bytes stored : List ℕ) : Type 0 where

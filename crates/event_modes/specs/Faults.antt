@@ -1,7 +1,7 @@
 -- Why bytes are no message: the first fault, in the order in which the parts of a message are
 -- examined.
-use Rattle.std.specs.Prelude.{ℕ, ◌≡◌, ◌≢◌, ◌⊎◌, List, [], ◌∷◌, ◌++◌, Option, Some, None, codes}
-use Rattle.std.specs.List.{AllByRecursion, concat}
+use Rattle.std.specs.Prelude.{ℕ, ◌≡◌, ◌≢◌, ◌⊎◌, List, [], ◌∷◌, ◌++◌, take, IsSomeAnd, Option, Some, None, codes}
+use Rattle.std.specs.List.{AllByRecursion, concat, slice_get}
 use Rattle.msgpack_bytes.specs.declared.answers.MsgFault.{MsgFault}
 use Rattle.msgpack_bytes.specs.Item.{IsItemWithin, IsOpen}
 use Rattle.msgpack_bytes.specs.Kinds.{IsNil}
@@ -15,56 +15,51 @@ use Rattle.event_modes.specs.Options.{IsChunk, IsUncompressed, IsFit}
 use Rattle.event_modes.specs.Message.{Carrier, Single, Forward, Packed, Frame, IsFrame, IsTag, Carries}
 
 -- one is bad, and all before it are good
-pub record FirstBad {X : Type 0} (Good Bad : X → Type 0) (all : List X) : Type 0 where
-  pub before : List X
-  pub first : X
-  pub after : List X
-  pub good : AllByRecursion Good before
-  pub bad : Bad first
-  pub whole : all ≡ before ++ first ∷ after
+abbrev pub FirstBad : {X : Type 0} → (X → Type 0) → (X → Type 0) → List X → Type 0
+FirstBad Good Bad all = (k : ℕ) × AllByRecursion Good (take k all) × IsSomeAnd (slice_get all k) Bad
 
 -- a time and then a record
 abbrev pub EventFault : List ℕ → List ℕ → ModeFault → Type 0
-EventFault time fields BadTime = IsTime time → ⊥
-EventFault time fields BadRecord = IsTime time × (IsRecord fields → ⊥)
-EventFault time fields _ = ⊥
+EventFault time fields fault = ((fault ≡ BadTime) × (IsTime time → ⊥))
+    ⊎ ((fault ≡ BadRecord) × IsTime time × (IsRecord fields → ⊥))
 
 -- an entry: first that it is an array of two
-abbrev pub EntryFault : ModeFault → List ℕ → Type 0
-EntryFault BadEntry bytes = (time fields : List ℕ) → IsArray (time ∷ fields ∷ []) bytes → ⊥
-EntryFault fault bytes = (time : List ℕ) × (fields : List ℕ) × IsArray (time ∷ fields ∷ []) bytes
-    × EventFault time fields fault
+abbrev pub EntryFault : List ℕ → ModeFault → Type 0
+EntryFault bytes fault =
+    ((fault ≡ BadEntry) × ((time fields : List ℕ) → IsArray (time ∷ fields ∷ []) bytes → ⊥))
+    ⊎ ((time : List ℕ) × (fields : List ℕ) × IsArray (time ∷ fields ∷ []) bytes
+    × EventFault time fields fault)
 
 -- an array of a time and a record
 abbrev pub IsGoodEntry : List ℕ → Type 0
 IsGoodEntry bytes = (stored : List ℕ) × IsEntry bytes stored
 
--- packed bytes that begin with no whole item: they end inside one, or no item begins so
-abbrev pub PackedEnd : List ℕ → ModeFault → Type 0
-PackedEnd rest TornPacked = IsOpen rest
-PackedEnd rest (Bytes fault) = IsFaulty fault rest
-PackedEnd rest _ = ⊥
+-- no item begins so, for this reason, or the item that the bytes begin with has such a fault
+abbrev pub BeginsBadly : (List ℕ → ModeFault → Type 0) → List ℕ → ModeFault → Type 0
+BeginsBadly ItsFault bytes fault = ((why : MsgFault) × (fault ≡ Bytes why) × IsFaulty why bytes)
+    ⊎ ((item : List ℕ) × (more : List ℕ) × IsItemWithin item × ItsFault item fault
+    × (bytes ≡ item ++ more))
 
 -- what stands behind the last good entry of a PackedForward message's entries
-abbrev pub PackedFault : ModeFault → List ℕ → Type 0
-PackedFault fault rest = (rest ≢ []) × (PackedEnd rest fault
-    ⊎ ((item : List ℕ) × (more : List ℕ) × IsItemWithin item × EntryFault fault item
-    × (rest ≡ item ++ more)))
+abbrev pub PackedFault : List ℕ → ModeFault → Type 0
+PackedFault rest fault = ((fault ≡ TornPacked) × (rest ≢ []) × IsOpen rest)
+    ⊎ BeginsBadly EntryFault rest fault
 
 -- the first bad entry; only packed entries can be torn or no items at all
 abbrev pub CarriedFault : Carrier → ModeFault → Type 0
 CarriedFault (Single time fields) fault = EventFault time fields fault
 CarriedFault (Forward array) fault = (items : List (List ℕ)) × IsArray items array
-    × FirstBad IsGoodEntry (EntryFault fault) items
+    × FirstBad IsGoodEntry (λ item. EntryFault item fault) items
 CarriedFault (Packed content) fault = (items : List (List ℕ)) × (rest : List ℕ)
     × AllByRecursion IsItemWithin items × AllByRecursion IsGoodEntry items
-    × (content ≡ concat items ++ rest) × PackedFault fault rest
+    × (content ≡ concat items ++ rest) × PackedFault rest fault
 
 -- what is wrong with one pair of an option
 abbrev pub PairFault : ModeFault → Pair → Type 0
-PairFault BadOption pair = IsNamed (codes "chunk") pair × (IsChunk pair.value → ⊥)
-PairFault Compressed pair = IsNamed (codes "compressed") pair × (IsUncompressed pair.value → ⊥)
-PairFault _ pair = ⊥
+PairFault fault pair =
+    ((fault ≡ BadOption) × IsNamed (codes "chunk") pair × (IsChunk pair.value → ⊥))
+    ⊎ ((fault ≡ Compressed) × IsNamed (codes "compressed") pair
+    × (IsUncompressed pair.value → ⊥))
 
 -- an option that is neither nil nor a map, or the first bad pair of one
 abbrev pub OptionFault : Option (List ℕ) → ModeFault → Type 0
@@ -89,6 +84,10 @@ ItemFault bytes fault =
 
 -- what keeps the bytes from beginning with a message or a nil, however they go on
 abbrev pub StreamFault : List ℕ → ModeFault → Type 0
-StreamFault bytes fault = ((why : MsgFault) × (fault ≡ Bytes why) × IsFaulty why bytes)
-    ⊎ ((item : List ℕ) × (more : List ℕ) × IsItemWithin item × ItemFault item fault
-    × (bytes ≡ item ++ more))
+StreamFault bytes fault = BeginsBadly ItemFault bytes fault
+
+-- packed bytes that begin with no whole item: they end inside one, or no item begins so
+abbrev pub PackedEnd : List ℕ → ModeFault → Type 0
+PackedEnd rest TornPacked = IsOpen rest
+PackedEnd rest (Bytes fault) = IsFaulty fault rest
+PackedEnd rest _ = ⊥

@@ -72,7 +72,7 @@ fn packed<A: Allocator>(alloc: A, content: &[u8]) -> Result<Entries<A>, FeedErro
 fn add<A: Allocator>(entries: &mut Entries<A>, entry: &[u8]) -> Result<(), FeedError>
     requires { IsItemWithin entry.now }
     ensures { Finds (λ _. IsAdded entry.now entries.old entries.new)
-        (λ fault. EntryFault fault entry.now) result }
+        (EntryFault entry.now) result }
 {
     if is_usual_entry(entry) {
         entries.push_stored(entry)?;

@@ -42,7 +42,7 @@ pub fn entry_of(entry: &[u8]) -> Result<Event<'_>, ModeFault>
     requires { IsItemWithin entry.now }
     ensures { MatchResult result
         (λ event. IsEntry entry.now (stored_entry event.time.now event.fields.now))
-        (λ fault. EntryFault fault entry.now) }
+        (EntryFault entry.now) }
 {
     let Some((time, fields)) = pair_of(entry) else {
         return Err(ModeFault::BadEntry);

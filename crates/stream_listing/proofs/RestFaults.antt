@@ -74,33 +74,34 @@ first_bad : {X : Type 0} (Good : X → Type 0) (Bad : ModeFault → X → Type 0
     → (all : List X) → (AllByRecursion Good all → ⊥) → ((fault : ModeFault) → FirstBad Good (Bad fault) all → ⊥) → ⊥
 first_bad Good Bad each [] good none = good tt
 first_bad Good Bad each (x ∷ xs) good none = each x
-    (λ one. first_bad Good Bad each xs (λ more. good (one, more)) (λ fault bad. none fault (record {
-      before = x ∷ bad.before;
-      first = bad.first;
-      after = bad.after;
-      good = (one, bad.good);
-      bad = bad.bad;
-      whole = ap (λ l. x ∷ l) bad.whole;
-    })))
-    (λ fault bad. none fault (record { before = []; first = x; after = xs; good = tt; bad = bad; whole = refl }))
+    (λ one. first_bad Good Bad each xs (λ more. good (one, more)) (λ fault bad. none fault (suc bad.0, (one, bad.1), bad.2)))
+    (λ fault bad. none fault (0, tt, bad))
 
-entry_fault : (bytes : List ℕ) → (IsGoodEntry bytes → ⊥) → ((fault : ModeFault) → EntryFault fault bytes → ⊥) → ⊥
-entry_fault bytes good none = none BadEntry (λ time fields array. none BadTime (
-  time,
-  fields,
-  array,
-  λ is_time.
-      none BadRecord (
+entry_fault : (bytes : List ℕ) → (IsGoodEntry bytes → ⊥) → ((fault : ModeFault) → EntryFault bytes fault → ⊥) → ⊥
+entry_fault bytes good none =
+    none BadEntry (inl (
+      refl,
+      λ time fields array. none BadTime (inr (
         time,
         fields,
         array,
-        (
-          is_time,
-          λ is_record.
-              good (stored_entry time fields, record { time = time; fields = fields; array = array; is_time = is_time; is_record = is_record; is_stored = refl }),
+        inl (
+          refl,
+          λ is_time.
+              none BadRecord (inr (
+                time,
+                fields,
+                array,
+                inr (
+                  refl,
+                  is_time,
+                  λ is_record.
+                      good (stored_entry time fields, record { time = time; fields = fields; array = array; is_time = is_time; is_record = is_record; is_stored = refl }),
+                ),
+              )),
         ),
-      ),
-))
+      )),
+    ))
 
 stored_as : (items : List (List ℕ)) → AllByRecursion IsGoodEntry items → (entries : List (List ℕ)) × AllZip IsEntry items entries
 stored_as [] good = ([], tt)
@@ -112,7 +113,7 @@ stored_as (x ∷ xs) good =
 -- packed entries: good ones to the end, or what stands behind some good ones
 packed_fault : (most : ℕ) (content : List ℕ) → length content ≤ most
     → ((items : List (List ℕ)) → AllByRecursion IsItemWithin items → AllByRecursion IsGoodEntry items → content ≡ concat items → ⊥)
-    → ((fault : ModeFault) (items : List (List ℕ)) (rest : List ℕ) → AllByRecursion IsItemWithin items → AllByRecursion IsGoodEntry items → content ≡ concat items ++ rest → PackedFault fault rest → ⊥) → ⊥
+    → ((fault : ModeFault) (items : List (List ℕ)) (rest : List ℕ) → AllByRecursion IsItemWithin items → AllByRecursion IsGoodEntry items → content ≡ concat items ++ rest → PackedFault rest fault → ⊥) → ⊥
 packed_fault most [] short good none = good [] tt tt refl
 packed_fault zero (b ∷ bytes) short good none = absurd (omega arith)
 packed_fault (suc most) (b ∷ bytes) short good none =
@@ -124,14 +125,14 @@ packed_fault (suc most) (b ∷ bytes) short good none =
     (λ items texts goods e. good (item ∷ items) (text, texts) (one, goods) (whole ∙ ap (λ l. item ++ l) e))
     (λ fault items rest texts goods e bad. none fault (item ∷ items) rest (text, texts) (one, goods)
     (whole ∙ ap (λ l. item ++ l) e ∙ sym (append_assoc item (concat items) rest)) bad))
-    (λ fault bad. none fault [] content tt tt refl (some, inr (item, more, text, bad, whole))) in
-    let begins : IsOpen content → ⊥ = λ o. none TornPacked [] content tt tt refl (some, inl o) in
+    (λ fault bad. none fault [] content tt tt refl (inr (inr (item, more, text, bad, whole)))) in
+    let begins : IsOpen content → ⊥ = λ o. none TornPacked [] content tt tt refl (inl (refl, some, o)) in
     lost_faulty content
     (record {
       begins_none = λ more text. begins (longer_open content more text (λ t. begun content [] t (sym (append-nil content))));
       has_none = λ front back e text. begun front back text e;
     })
-    (λ why faulty. none (Bytes why) [] content tt tt refl (some, inl faulty))
+    (λ why faulty. none (Bytes why) [] content tt tt refl (inr (inl (why, refl, faulty))))
   where
     shorter : (item more : List ℕ) → IsItemWithin item → b ∷ bytes ≡ item ++ more → length more ≤ most
     shorter [] more text e = absurd (some_item (text_item [] text))
@@ -140,9 +141,9 @@ packed_fault (suc most) (b ∷ bytes) short good none =
 carried_fault : (tag : List ℕ) (carrier : Carrier) (option : Option (List ℕ)) (elements : List (List ℕ)) → IsLaidOut tag carrier option elements
     → ((entries : List (List ℕ)) → Carries carrier entries → ⊥) → ((fault : ModeFault) → CarriedFault carrier fault → ⊥) → ⊥
 carried_fault tag (Single time fields) option elements laid good none =
-    none BadTime (λ is_time. none BadRecord (is_time, λ is_record. good (stored_entry time fields ∷ []) (is_time, is_record, refl)))
+    none BadTime (inl (refl, λ is_time. none BadRecord (inr (refl, is_time, λ is_record. good (stored_entry time fields ∷ []) (is_time, is_record, refl)))))
 carried_fault tag (Forward array) option elements laid good none =
-    first_bad IsGoodEntry EntryFault entry_fault laid.1.0
+    first_bad IsGoodEntry (λ fault item. EntryFault item fault) entry_fault laid.1.0
     (λ goods. (let stored = stored_as laid.1.0 goods in good stored.0 (laid.1.0, laid.1.1, stored.1)))
     (λ fault bad. none fault (laid.1.0, laid.1.1, bad))
 carried_fault tag (Packed content) option elements laid good none =
@@ -156,8 +157,8 @@ follows never step = never (λ a. absurd (step a (λ b. never (λ _. b))))
 
 pair_fault : (pair : Pair) → (IsFit pair → ⊥) → ((fault : ModeFault) → PairFault fault pair → ⊥) → ⊥
 pair_fault pair fit none =
-    follows (λ chunk. follows (λ compressed. fit (record { chunk = chunk; compressed = compressed })) (λ named bad. none Compressed (named, bad)))
-    (λ named bad. none BadOption (named, bad))
+    follows (λ chunk. follows (λ compressed. fit (record { chunk = chunk; compressed = compressed })) (λ named bad. none Compressed (inr (refl, named, bad))))
+    (λ named bad. none BadOption (inl (refl, named, bad)))
 
 last_value : (name : List ℕ) (pairs : List Pair) → (HasNoKey name pairs → ⊥) → ((value : List ℕ) → IsLastValue name pairs value → ⊥) → ⊥
 last_value name [] lacks has = lacks tt

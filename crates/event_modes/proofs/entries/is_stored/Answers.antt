@@ -14,7 +14,7 @@ use Rattle.event_modes.proofs.entries.is_stored.Goals as goal
 pub bounds-entry-0 : goal.bounds-entry-0
 bounds-entry-0 c = some_byte c.args.entry.now c.requires
 
-kept : (entry : List ℕ) (r : Result Event ModeFault) → IsItemWithin entry → get_or entry 0 0 ≡ 0x92 → MatchResult r (λ event. IsEntry entry (stored_entry event.time.now event.fields.now)) (λ fault. EntryFault fault entry)
+kept : (entry : List ℕ) (r : Result Event ModeFault) → IsItemWithin entry → get_or entry 0 0 ≡ 0x92 → MatchResult r (λ event. IsEntry entry (stored_entry event.time.now event.fields.now)) (EntryFault entry)
     → (IsTrue (is_ok r) → IsStored entry) × (IsStored entry → IsTrue (is_ok r))
 kept entry (Ok event) t f m = (λ _. is_kept entry (stored_entry event.time.now event.fields.now) t f m, λ _. refl)
 kept entry (Err fault) t f m = (λ x. absurd cc, λ s. absurd (good_entry fault entry (entry, s.kept) m))

@@ -21,5 +21,5 @@ pub returns-in_err-add : goal.returns-in_err-add
 returns-in_err-add g c =
     let p = err_from_is_err_and c.from_residual-in_err-add.result c.from_residual-in_err-add.ensures.1 in
     rw (p.1, p.2) (failed (Carries (Packed c.args.content.now)) c.in_err-add.field-0.0
-    (λ fault f. packed_bad c.args.content.now c.loop-rest.rest.now c.in_ok-entry.entry.now c.in_ok-entry.behind.now c.loop-rest.entries fault c.loop-rest.invariant (not_empty c.loop-rest.rest.now c.loop-rest-test.ensures) c.in_ok-entry.ensures.0 c.in_ok-entry.ensures.1 f)
+    (λ fault f. packed_bad c.args.content.now c.loop-rest.rest.now c.in_ok-entry.entry.now c.in_ok-entry.behind.now c.loop-rest.entries fault c.loop-rest.invariant c.in_ok-entry.ensures.0 c.in_ok-entry.ensures.1 f)
     c.in_err-add.ensures)

@@ -10,7 +10,7 @@ use Rattle.event_modes.proofs.entry.entry_of.Goals as goal
 
 entry_is : (bytes time fields : List ℕ) (r : Result Event ModeFault) → IsArray (time ∷ fields ∷ []) bytes
     → IfOk r (λ event. (event.time.now ≡ time) × (event.fields.now ≡ fields)) → MatchResult r (λ event. IsTime time × IsRecord fields) (EventFault time fields)
-    → MatchResult r (λ event. IsEntry bytes (stored_entry event.time.now event.fields.now)) (λ fault. EntryFault fault bytes)
+    → MatchResult r (λ event. IsEntry bytes (stored_entry event.time.now event.fields.now)) (EntryFault bytes)
 entry_is bytes time fields (Ok event) a same p =
     record { time = time; fields = fields; array = a; is_time = p.0; is_record = p.1; is_stored = ap₂ stored_entry same.0 same.1 }
 entry_is bytes time fields (Err fault) a same p = entry_fault bytes time fields fault a p
