@@ -5,7 +5,7 @@ use Rattle.std.specs.Str.{bytes_eq}
 use Rattle.std.proofs.lemmas.Map.{update_same, update_other, update-update}
 use Rattle.std.proofs.lemmas.Bool.{cases_lt}
 use Rattle.disk_files.specs.Disk.{File, Disk, Folder, with_file, SameDisk, Changes, MayStay, StopLeaves}
-use Rattle.disk_files.specs.Moments.{History, now, Elapses, LeavesOnly}
+use Rattle.disk_files.specs.Moments.{History, now, Elapses, Passes, LeavesOnly}
 use Rattle.disk_files.proofs.Table.{itself}
 
 -- What a stop leaves depends on the files alone
@@ -43,6 +43,17 @@ pub rests : (old mid new : History) (P : Folder → Type 0) → LeavesOnly old m
 rests old mid new P so_far time same =
     goes_on old mid new P so_far time
     (λ folder left. so_far.each mid.moment so_far.later (omega arith) folder (leaves_same (now new) (now mid) folder same left))
+
+-- a call that leaves the disk as it was has it so at each moment
+pub passes_same : (old new : History) → Elapses old new → SameDisk (now new) (now old) → Passes old new (SameDisk (now old))
+passes_same old new time same = record {
+  later = time.later;
+  past = time.past;
+  each = λ t above below name. ⊎_elim
+      (λ after. sym (same name) ∙ sym (time.since t after below name))
+      (λ before. let at : t ≡ old.moment = omega (arith, above, before) in sym (time.past t before name ∙ ap (λ u. old.disk_at u name) at))
+      (cases_lt old.moment t);
+}
 
 -- two stretches of time, one after the other
 pub joined : (old mid new : History) (P : Folder → Type 0) → LeavesOnly old mid P → LeavesOnly mid new P → LeavesOnly old new P

@@ -1,6 +1,6 @@
 -- A folder on a disk: what was written to its files, how much of that is certainly there, and what
 -- a stop may leave.
-use Rattle.std.specs.Prelude.{◌≡◌, ◌⊎◌, ℕ, ◌≤◌, Bool, true, false, List, [], ◌++◌, length, take, Option, Some, None, IsSome, cond, option_map}
+use Rattle.std.specs.Prelude.{◌≡◌, ◌⊎◌, ℕ, ◌≤◌, Bool, true, false, List, [], ◌++◌, length, take, Option, Some, None, IsSome, cond, option_map, option_and_then}
 use Rattle.std.specs.Str.{bytes_eq}
 use Rattle.std.specs.Map.{update}
 
@@ -54,14 +54,13 @@ abbrev pub Changes : List ℕ → (File → File) → Disk → Disk → Type 0
 Changes name how before after =
     SameDisk after (with_file before name (option_map how (before name)))
 
--- what a read of a file finds: all that was written, and nothing once it was removed
-abbrev pub read_of : Option File → Option (List ℕ)
-read_of None = None
-read_of (Some f) = cond f.is_removed None (Some f.written)
-
--- the folder as it reads
+-- the folder as it reads: of each file all that was written, and nothing once it was removed
 abbrev pub reads : Disk → Folder
-reads disk name = read_of (disk name)
+reads disk name = option_and_then (λ f. cond f.is_removed None (Some f.written)) (disk name)
+
+-- the same of one file, or of none
+abbrev pub read_of : Option File → Option (List ℕ)
+read_of file = option_and_then (λ f. cond f.is_removed None (Some f.written)) file
 
 -- a file of this name was there, and was removed
 abbrev pub WasRemoved : Disk → List ℕ → Type 0

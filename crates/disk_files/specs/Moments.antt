@@ -18,9 +18,13 @@ pub record Elapses (old new : History) : Type 0 where
   pub past : (t : ℕ) → t ≤ old.moment → SameDisk (new.disk_at t) (old.disk_at t)
   pub since : (t : ℕ) → old.moment < t → t ≤ new.moment → SameDisk (new.disk_at t) (now new)
 
--- A stop at any moment since old, that moment among them, leaves a folder with P.
-pub record LeavesOnly (old new : History) (P : Folder → Type 0) : Type 0 where
+-- The same, where what is said of the disk is P, of each moment from old's on.
+pub record Passes (old new : History) (P : Disk → Type 0) : Type 0 where
   pub later : old.moment ≤ new.moment
   pub past : (t : ℕ) → t ≤ old.moment → SameDisk (new.disk_at t) (old.disk_at t)
-  pub each : (t : ℕ) → old.moment ≤ t → t ≤ new.moment → (folder : Folder)
-      → StopLeaves (new.disk_at t) folder → P folder
+  pub each : (t : ℕ) → old.moment ≤ t → t ≤ new.moment → P (new.disk_at t)
+
+-- A stop at any moment since old, that moment among them, leaves a folder with P.
+abbrev pub LeavesOnly : History → History → (Folder → Type 0) → Type 0
+LeavesOnly old new P = Passes old new (λ disk. (folder : Folder) → StopLeaves disk folder
+    → P folder)
