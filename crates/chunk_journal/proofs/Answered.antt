@@ -106,7 +106,7 @@ bad_rest end rest (x ∷ more) each torn e bad = bad.none x (journal_bytes more 
 not_damaged : HasOneFront → (bytes : List ℕ) (records : List Record) (rest : List ℕ) → IsJournal bytes records rest
     → ((some more : List Record) → records ≡ some ++ more → IsMisplaced some → ⊥) → IsDamaged bytes → ⊥
 not_damaged law bytes records rest j placed d =
-    let f = front_of law d.records records d.rest rest d.begins.each j.begins.each j.torn (sym d.begins.whole ∙ j.begins.whole) in
+    let f = front_of law d.records records d.rest rest d.begins.each j.each j.torn (sym d.begins.whole ∙ j.whole) in
     elim d.wrong [
       | inl wrong ↦ placed d.records f.0 f.1 wrong
       | inr bad ↦ bad_rest d.rest rest f.0 f.2 j.torn f.3 bad

@@ -64,7 +64,7 @@ pub ends_unsealed : (bytes rest : List ℕ) (place : Place) → SoFar bytes plac
 ends_unsealed bytes rest place s torn e = record {
   records = s.records;
   rest = rest;
-  journal = record { begins = s.begins; torn = torn };
+  journal = record { each = s.begins.each; whole = s.begins.whole; torn = torn };
   unsealed = (subst (λ (z : Bool). Stands z s.records place.state) e s.stands).0;
 }
 
@@ -74,7 +74,7 @@ pub is_replayed : (bytes rest : List ℕ) (place : Place) (state : State) → So
 is_replayed bytes rest place state s torn e m = record {
   records = s.records;
   rest = rest;
-  journal = record { begins = s.begins; torn = torn };
+  journal = record { each = s.begins.each; whole = s.begins.whole; torn = torn };
   generation = record { last = place.state; leads = subst (λ (z : Bool). Stands z s.records place.state) e s.stands; means = m };
   ends = omega (arith, ap length s.begins.whole, length-append (journal_bytes s.records) rest);
 }

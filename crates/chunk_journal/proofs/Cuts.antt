@@ -5,12 +5,13 @@ use Rattle.std.specs.Int.{w32, from_be_bytes}
 use Rattle.std.proofs.lemmas.Bool.{cases_lt, ltb-false, ltb-true}
 use Rattle.std.proofs.lemmas.List.{length-append, length-take, take-take}
 use Rattle.chunk_journal.specs.Records.{Record, body_of, record_bytes, IsRecord}
-use Rattle.chunk_journal.specs.Journal.{IsLength, IsTorn, IsJournal, journal_bytes, said_length, within}
+use Rattle.chunk_journal.specs.Journal.{IsTorn, IsJournal, journal_bytes, said_length, within}
+use Rattle.chunk_journal.specs.Reading.{IsLength}
 use Rattle.chunk_journal.proofs.Frames.{said_of, record_length}
 
 -- what ends within its length, or before as many bytes as it says, is torn
 torn_by : (bytes : List ℕ) (n : ℕ) → said_length bytes ≡ n → IsLength n → length bytes < 4 + n → IsTorn bytes
-torn_by bytes n e l lt = inr (subst IsLength (sym e) l, omega arith)
+torn_by bytes n e l lt = let is = subst IsLength (sym e) l in inr (is.some, is.short, omega arith)
 
 torn_short : (bytes : List ℕ) → length bytes < 4 → IsTorn bytes
 torn_short bytes lt = inl lt
@@ -21,7 +22,7 @@ torn_take n bytes (inl short) = torn_short (take n bytes) (omega (arith, length-
 torn_take n bytes (inr torn) =
     elim (cases_lt n 4) [
       | inl lt ↦ torn_short (take n bytes) (omega (arith, length-take n bytes))
-      | inr le ↦ torn_by (take n bytes) (said_length bytes) (ap (from_be_bytes w32) (take-take 4 n bytes le)) torn.0 (omega (arith, torn.1, length-take n bytes))
+      | inr le ↦ torn_by (take n bytes) (said_length bytes) (ap (from_be_bytes w32) (take-take 4 n bytes le)) (record { some = torn.0; short = torn.1 }) (omega (arith, torn.2, length-take n bytes))
     ]
 
 -- a proper beginning of a record is torn
@@ -51,34 +52,33 @@ cut_first : (item : Record) (records : List Record) (rest : List ℕ) (n : ℕ) 
 cut_first item records rest n true e is r = (
   take n (journal_bytes (item ∷ records) ++ rest),
   record {
-    begins = record { each = tt; whole = refl };
+    each = tt;
+    whole = refl;
     torn = subst (λ (z : List ℕ). IsTorn (take n z)) (sym (joined item records rest)) (torn_record n item (journal_bytes records ++ rest) is (ltb-true _ _ e));
   },
 )
 cut_first item records rest n false e is r = (
   r.0,
   record {
-    begins = record {
-      each = (is, r.1.begins.each);
-      whole = ap (take n) (joined item records rest) ∙ take_past (record_bytes item) (journal_bytes records ++ rest) n (ltb-false _ _ e)
-          ∙ ap (λ (z : List ℕ). record_bytes item ++ z) r.1.begins.whole
-          ∙ sym (append_assoc (record_bytes item) (journal_bytes (take (within records (n - length (record_bytes item))) records)) r.0);
-    };
+    each = (is, r.1.each);
+    whole = ap (take n) (joined item records rest) ∙ take_past (record_bytes item) (journal_bytes records ++ rest) n (ltb-false _ _ e)
+        ∙ ap (λ (z : List ℕ). record_bytes item ++ z) r.1.whole
+        ∙ sym (append_assoc (record_bytes item) (journal_bytes (take (within records (n - length (record_bytes item))) records)) r.0);
     torn = r.1.torn;
   },
 )
 
 cut_from : (records : List Record) (rest : List ℕ) (n : ℕ) → AllByRecursion IsRecord records → IsTorn rest
     → (end : List ℕ) × IsJournal (take n (journal_bytes records ++ rest)) (take (within records n) records) end
-cut_from [] rest n each torn = (take n rest, record { begins = record { each = tt; whole = refl }; torn = torn_take n rest torn })
+cut_from [] rest n each torn = (take n rest, record { each = tt; whole = refl; torn = torn_take n rest torn })
 cut_from (item ∷ records) rest n each torn =
     cut_first item records rest n (ltb n (length (record_bytes item))) refl each.0 (cut_from records rest (n - length (record_bytes item)) each.1 torn)
 
 pub cut_whole : (bytes : List ℕ) (records : List Record) (rest : List ℕ) (n : ℕ) → IsJournal bytes records rest
     → (end : List ℕ) × IsJournal (take n bytes) (take (within records n) records) end
 cut_whole bytes records rest n j =
-    let r = cut_from records rest n j.begins.each j.torn in
-    (r.0, subst (λ (z : List ℕ). IsJournal (take n z) (take (within records n) records) r.0) (sym j.begins.whole) r.1)
+    let r = cut_from records rest n j.each j.torn in
+    (r.0, subst (λ (z : List ℕ). IsJournal (take n z) (take (within records n) records) r.0) (sym j.whole) r.1)
 
 -- ---- how many
 

@@ -3,9 +3,9 @@ use Rattle.std.proofs.Common.{◌≡◌, ℕ, ◌+◌, ◌^◌, ◌<◌, ◌≤�
 use Rattle.std.specs.List.{concat}
 use Rattle.std.specs.Int.{w32, to_be_bytes}
 use Rattle.std.proofs.lemmas.List.{take_at, drop_at, length-append, length-take-le, take-append-drop}
-use Rattle.chunk_journal.specs.Records.{Record, Seal, Append, Queue, Purge, append_fixed, framed, body_of, record_bytes, longest_body, IsRecord}
-use Rattle.chunk_journal.specs.Journal.{IsLength, IsTorn, IsBad, said_length}
-use Rattle.chunk_journal.specs.Reading.{IsFramed}
+use Rattle.chunk_journal.specs.Records.{Record, Seal, Append, Queue, Purge, append_fixed, body_of, record_bytes, longest_body, IsRecord}
+use Rattle.chunk_journal.specs.Journal.{IsTorn, IsBad, said_length}
+use Rattle.chunk_journal.specs.Reading.{IsLength, IsFramed, framed}
 use Rattle.chunk_journal.specs.Fields.{number_at}
 use Rattle.chunk_journal.proofs.Numbers.{AreBytes, wide32, number_parts}
 
@@ -51,7 +51,7 @@ framed_whole bytes body rest f torn = not_torn (subst IsTorn f.whole torn)
 
     not_torn : IsTorn (framed body ++ rest) → ⊥
     not_torn (inl short) = absurd (omega (arith, length-append body rest))
-    not_torn (inr torn) = absurd (omega (arith, torn.1, said, length-append body rest))
+    not_torn (inr torn) = absurd (omega (arith, torn.2, said, length-append body rest))
 
 -- a whole length that no record has begins no record
 pub bad_length : (bytes : List ℕ) → (IsTorn bytes → ⊥) → (IsLength (said_length bytes) → ⊥) → IsBad bytes

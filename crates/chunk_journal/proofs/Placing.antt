@@ -44,19 +44,17 @@ within_last count (e ∷ es) extent all one = (all.0, within_last count es exten
 pub lie_on : (seen more : List ℕ) (extents others : List Extent) (bytes same : List ℕ) → LieAt seen extents bytes → others ≡ extents → same ≡ bytes → LieAt (seen ++ more) others same
 lie_on seen more extents others bytes same l e b =
     subst (λ (xs : List Extent). LieAt (seen ++ more) xs same) (sym e) (subst (LieAt (seen ++ more) extents) (sym b)
-    (record { lie = bytes_stay seen more extents l.within ∙ l.lie; within = within_more seen more extents l.within }))
+    (within_more seen more extents l.0, bytes_stay seen more extents l.0 ∙ l.1))
 
 -- no places, no bytes
 pub lie_none : (seen : List ℕ) (extents : List Extent) (bytes : List ℕ) → extents ≡ [] → bytes ≡ [] → LieAt seen extents bytes
-lie_none seen extents bytes e b = subst (λ (xs : List Extent). LieAt seen xs bytes) (sym e) (subst (LieAt seen []) (sym b) (record { lie = refl; within = tt }))
+lie_none seen extents bytes e b = subst (λ (xs : List Extent). LieAt seen xs bytes) (sym e) (subst (LieAt seen []) (sym b) (tt, refl))
 
 -- one place more
 lie_last : (seen : List ℕ) (extents : List Extent) (extent : Extent) (bytes more : List ℕ) → LieAt seen extents bytes → more ≡ bytes_from seen extent → IsWithin (length seen) extent
     → LieAt seen (extents ++ extent ∷ []) (bytes ++ more)
-lie_last seen extents extent bytes more l here within = record {
-  lie = sym (flat_map_more (bytes_from seen) [] extents extent) ∙ ap₂ (λ (x y : List ℕ). x ++ y) l.lie (sym here);
-  within = within_last (length seen) extents extent l.within within;
-}
+lie_last seen extents extent bytes more l here within =
+    (within_last (length seen) extents extent l.0 within, sym (flat_map_more (bytes_from seen) [] extents extent) ∙ ap₂ (λ (x y : List ℕ). x ++ y) l.1 (sym here))
 
 -- entries that end there are within the bytes
 ends_within : (seen : List ℕ) (entries : List (List ℕ)) (end : ℕ) → EndsAt seen (Append 0 [] entries) end → IsWithin (length seen) (extent_before end (size entries))

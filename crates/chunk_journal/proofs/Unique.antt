@@ -5,8 +5,9 @@ use Rattle.std.specs.Int.{w64, to_be_bytes}
 use Rattle.msgpack_bytes.specs.Laws.{HasOneFront}
 use Rattle.event_modes.specs.Rows.{IsStored}
 use Rattle.event_modes.proofs.Stored.{no_longer}
-use Rattle.chunk_journal.specs.Records.{Record, Seal, Append, Queue, Purge, append_fields, body_of, record_bytes, numbered, longest_body, IsAppend, IsRecord}
+use Rattle.chunk_journal.specs.Records.{Record, Seal, Append, Queue, Purge, body_of, record_bytes, numbered, longest_body, IsAppend, IsRecord}
 use Rattle.chunk_journal.specs.Fields.{Fields}
+use Rattle.chunk_journal.specs.Reading.{append_fields}
 use Rattle.chunk_journal.specs.Journal.{IsTorn, IsJournal, journal_bytes}
 use Rattle.chunk_journal.proofs.Numbers.{wide64, same_number, is_some, fields_again}
 use Rattle.chunk_journal.specs.Fields.{parts_from}
@@ -93,4 +94,4 @@ same_records law (x ∷ records) (y ∷ others) rest end a b s t e =
 -- there is one way to read bytes as a journal
 pub same_journal : HasOneFront → (bytes : List ℕ) (records others : List Record) (rest end : List ℕ) → IsJournal bytes records rest → IsJournal bytes others end → (records ≡ others) × (rest ≡ end)
 same_journal law bytes records others rest end a b =
-    same_records law records others rest end a.begins.each b.begins.each a.torn b.torn (sym a.begins.whole ∙ b.begins.whole)
+    same_records law records others rest end a.each b.each a.torn b.torn (sym a.whole ∙ b.whole)

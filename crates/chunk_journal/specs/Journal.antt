@@ -8,16 +8,13 @@ use Rattle.chunk_journal.specs.Records.{Record, longest_body, record_bytes, IsRe
 abbrev pub said_length : List ℕ → ℕ
 said_length bytes = from_be_bytes w32 (take 4 bytes)
 
--- a length that a record may have
-pub record IsLength (n : ℕ) : Type 0 where
-  pub some : 0 < n
-  pub short : n ≤ longest_body
-
 -- the bytes end before a record is whole: within its length, or with fewer bytes behind it than it
--- says
+-- says, where a record may have so many
 abbrev pub IsTorn : List ℕ → Type 0
 IsTorn bytes = (length bytes < 4)
-    ⊎ (IsLength (said_length bytes) × (length bytes < 4 + said_length bytes))
+    ⊎ ((0 < said_length bytes)
+    × (said_length bytes ≤ longest_body)
+    × (length bytes < 4 + said_length bytes))
 
 -- something whole stands here that is no record: a length that none has, or as many bytes as it
 -- says that spell none
@@ -36,7 +33,8 @@ pub record BeginsWith (records : List Record) (rest bytes : List ℕ) : Type 0 w
 
 -- the bytes are these whole records, and end before another is whole
 pub record IsJournal (bytes : List ℕ) (records : List Record) (rest : List ℕ) : Type 0 where
-  pub begins : BeginsWith records rest bytes
+  pub each : AllByRecursion IsRecord records
+  pub whole : bytes ≡ journal_bytes records ++ rest
   pub torn : IsTorn rest
 
 -- how many of the records end within the first n bytes

@@ -1,10 +1,9 @@
 -- What a journal means: the chunks that a generation begins with, the Seal behind them, and then
 -- the steps.
-use Rattle.std.specs.Prelude.{ℕ, ◌≡◌, ◌+◌, ◌≤◌, ◌⊎◌, List, [], ◌∷◌, ◌++◌, length}
+use Rattle.std.specs.Prelude.{ℕ, ◌≡◌, ◌+◌, ◌≤◌, ◌⊎◌, List, [], ◌∷◌, ◌++◌, length, cond}
 use Rattle.std.specs.List.{flat_map}
-use Rattle.buffer_state.specs.declared.chunk.Stage.{Stage}
 use Rattle.buffer_state.specs.declared.chunk.Stage.TheVariants.{Staged, Queued}
-use Rattle.buffer_state.specs.State.{Numbered, State, size, empty, IsAt}
+use Rattle.buffer_state.specs.State.{Numbered, State, size, empty, is_staged, IsAt}
 use Rattle.buffer_state.specs.Steps.{CanAppend, appended, queued_last, removed, greatest_size, settled}
 use Rattle.chunk_journal.specs.Records.{Record, Seal, Append, Queue, Purge}
 use Rattle.chunk_journal.specs.Journal.{IsBad, IsJournal, BeginsWith, journal_bytes}
@@ -88,7 +87,7 @@ pub record EndsUnsealed (bytes : List ℕ) : Type 0 where
   pub records : List Record
   pub rest : List ℕ
   pub journal : IsJournal bytes records rest
-  pub unsealed : IsUnsealed records
+  pub unsealed : Each Tells empty records
 
 -- somewhere stands a whole record that can't stand there, or something whole that is no record
 pub record IsDamaged (bytes : List ℕ) : Type 0 where
@@ -103,15 +102,11 @@ IsAnswer bytes (Means state used) = IsReplayed bytes state used
 IsAnswer bytes NotSealed = EndsUnsealed bytes
 IsAnswer bytes BadRecord = IsDamaged bytes
 
--- A Queue for a chunk that is to be claimed. One that was claimed is told as queued.
-abbrev pub queueing : ℕ → Stage → List Record
-queueing serial Staged = []
-queueing serial _ = Queue serial ∷ []
-
--- the records that tell a live chunk
+-- The records that tell a live chunk: an Append, and a Queue where it is to be claimed. One that was
+-- claimed is told as queued.
 abbrev pub chunk_records : Numbered → List Record
-chunk_records numbered =
-    Append numbered.0 numbered.1.tag numbered.1.entries ∷ queueing numbered.0 numbered.1.stage
+chunk_records numbered = Append numbered.0 numbered.1.tag numbered.1.entries
+    ∷ cond (is_staged numbered.1.stage) [] (Queue numbered.0 ∷ [])
 
 -- what a generation of these chunks begins with: the chunks by rising serial, and then one Seal
 abbrev pub beginning : List Numbered → ℕ → List Record

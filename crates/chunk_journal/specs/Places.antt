@@ -24,7 +24,8 @@ spot_at spots serial = lookup (is_at (nat_cmp serial)) spots
 
 -- the places of this chunk's entries; none where there is no such chunk
 abbrev pub places_at : Spots → ℕ → List Extent
-places_at spots serial = option_map_or (λ spot. spot.extents) (spot_at spots serial) []
+places_at spots serial =
+    option_map_or (λ spot. spot.extents) (lookup (is_at (nat_cmp serial)) spots) []
 
 -- one more place of this chunk finds room
 abbrev pub HasRoom : Spots → ℕ → Type 0
@@ -57,9 +58,9 @@ abbrev pub IsWithin : ℕ → Extent → Type 0
 IsWithin count extent = extent.at + extent.length ≤ count
 
 -- these bytes lie at these places
-pub record LieAt (seen : List ℕ) (extents : List Extent) (bytes : List ℕ) : Type 0 where
-  pub lie : bytes_at seen extents ≡ bytes
-  pub within : AllByRecursion (IsWithin (length seen)) extents
+abbrev pub LieAt : List ℕ → List Extent → List ℕ → Type 0
+LieAt seen extents bytes = AllByRecursion (IsWithin (length seen)) extents
+    × (bytes_at seen extents ≡ bytes)
 
 -- the bytes of the entries of the live chunk of this serial; none where there is no such chunk
 abbrev pub entries_at : State → ℕ → List ℕ
@@ -67,8 +68,9 @@ entries_at state serial = option_map_or (λ chunk. concat chunk.entries) (chunk_
 
 -- the entries of each live chunk lie at its places
 abbrev pub ArePlaced : List ℕ → Spots → State → Type 0
-ArePlaced seen spots state = (serial : ℕ) → LieAt seen (places_at spots serial)
-    (entries_at state serial)
+ArePlaced seen spots state = (serial : ℕ)
+    → AllByRecursion (IsWithin (length seen)) (places_at spots serial)
+    × (flat_map (bytes_from seen) (places_at spots serial) ≡ entries_at state serial)
 
 -- the place of so many bytes that end there
 abbrev pub extent_before : ℕ → ℕ → Extent

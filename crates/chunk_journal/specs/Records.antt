@@ -16,32 +16,9 @@ pub data Record : Type 0 where
 abbrev pub longest_body : ℕ
 longest_body = 16777216
 
--- the kind of a Seal; a record's kind is the first byte behind its length
-abbrev pub seal_kind : ℕ
-seal_kind = 1
-
--- the kind of an Append
-abbrev pub append_kind : ℕ
-append_kind = 2
-
--- the kind of a Queue
-abbrev pub queue_kind : ℕ
-queue_kind = 3
-
--- the kind of a Purge
-abbrev pub purge_kind : ℕ
-purge_kind = 4
-
 -- a kind and one number of eight bytes
 abbrev pub numbered : ℕ → ℕ → List ℕ
 numbered kind number = kind ∷ to_be_bytes w64 number
-
--- an Append's fields: the serial, the tag behind its length, and the entries behind their count
-abbrev pub append_fields : ℕ → List ℕ → List (List ℕ) → List ℕ
-append_fields serial tag entries =
-    to_be_bytes w64 serial
-    ++ (to_be_bytes w16 (length tag)
-    ++ (tag ++ (to_be_bytes w32 (length entries) ++ concat entries)))
 
 -- how many bytes an Append has behind its length beside its tag and its entries: the kind, the
 -- serial, the tag's length, and the entries' count
@@ -52,24 +29,23 @@ append_fixed = 15
 abbrev pub append_head : ℕ → List ℕ → ℕ → ℕ → List ℕ
 append_head serial tag count size =
     to_be_bytes w32 (append_fixed + length tag + size)
-    ++ (append_kind ∷ (to_be_bytes w64 serial
+    ++ (2 ∷ (to_be_bytes w64 serial
     ++ (to_be_bytes w16 (length tag) ++ (tag ++ to_be_bytes w32 count))))
 
--- what stands behind the length: the kind, and then the fields; each number has its highest byte
--- first
+-- what stands behind the length: the kind, and then the fields, of an Append its serial, the tag
+-- behind its length, and the entries behind their count; each number has its highest byte first
 abbrev pub body_of : Record → List ℕ
-body_of (Seal next) = numbered seal_kind next
-body_of (Append serial tag entries) = append_kind ∷ append_fields serial tag entries
-body_of (Queue serial) = numbered queue_kind serial
-body_of (Purge serial) = numbered purge_kind serial
+body_of (Seal next) = numbered 1 next
+body_of (Append serial tag entries) =
+    2 ∷ (to_be_bytes w64 serial
+    ++ (to_be_bytes w16 (length tag)
+    ++ (tag ++ (to_be_bytes w32 (length entries) ++ concat entries))))
+body_of (Queue serial) = numbered 3 serial
+body_of (Purge serial) = numbered 4 serial
 
--- a length of four bytes, and as many bytes
-abbrev pub framed : List ℕ → List ℕ
-framed body = to_be_bytes w32 (length body) ++ body
-
--- the one spelling of a record
+-- the one spelling of a record: a length of four bytes, and as many bytes
 abbrev pub record_bytes : Record → List ℕ
-record_bytes item = framed (body_of item)
+record_bytes item = to_be_bytes w32 (length (body_of item)) ++ body_of item
 
 -- an Append's fields: a serial of 64 bits, a tag that is not too long, and stored entries
 pub record IsAppend (serial : ℕ) (tag : List ℕ) (entries : List (List ℕ)) : Type 0 where

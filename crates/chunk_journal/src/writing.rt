@@ -2,7 +2,8 @@
 
 ghost use Rattle.std.specs.Prelude.{◌≡◌, ◌≤◌, ◌<◌, ◌+◌, ◌^◌, ◌++◌, ℕ, List, length, OnOk, OnErr, vec_len, vec_capacity};
 ghost use Rattle.event_modes.specs.Message.{longest_tag};
-ghost use Rattle.chunk_journal.specs.Records.{Append, append_fixed, append_head, numbered, framed, body_of, record_bytes, longest_body, IsRecord};
+ghost use Rattle.chunk_journal.specs.Records.{Append, append_fixed, append_head, numbered, body_of, record_bytes, longest_body, IsRecord};
+ghost use Rattle.chunk_journal.specs.Reading.{framed};
 ghost use Rattle.chunk_journal.specs.Spelled.{record_of, HasShortTag};
 
 use crate::record::{APPEND_KIND, PURGE_KIND, QUEUE_KIND, Record, SEAL_KIND};

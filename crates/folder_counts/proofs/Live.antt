@@ -100,7 +100,7 @@ live_start places known slots s is sorted = record {
 -- the bytes at a chunk's places
 its_bytes : (bytes : List ℕ) (places : Spots) (s : State) (serial : ℕ) (chunk : Chunk) → HasEntries s (serial, chunk) → ArePlaced bytes places s
     → known_at (Some bytes) (places_at places serial) 0 ≡ Some (concat chunk.entries)
-its_bytes bytes places s serial chunk has placed = ap Some (left_front bytes (places_at places serial) ∙ (placed serial).lie ∙ has)
+its_bytes bytes places s serial chunk has placed = ap Some (left_front bytes (places_at places serial) ∙ (placed serial).1 ∙ has)
 
 module _ (law : HasOneFront) (places : Spots) (serial : ℕ) (slot : Slot) (s : State) (stored : AllByRecursion IsStored slot.chunk.entries) where
   chunk_all : (known : Option (List ℕ)) (rest : Slots) (oldest nanos : Option ℤ) (on : LiveOn places known oldest ((serial, slot) ∷ rest) s)

@@ -57,7 +57,8 @@ leads_of t is = record {
 
 journal_of : (t : JournalLog) → IsJournalLog t → IsJournal (journal_bytes (records_of t)) (records_of t) []
 journal_of t is = record {
-  begins = record { each = is.records; whole = sym (append-nil (journal_bytes (records_of t))) };
+  each = is.records;
+  whole = sym (append-nil (journal_bytes (records_of t)));
   torn = inl (omega arith);
 }
 

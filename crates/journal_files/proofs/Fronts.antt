@@ -1,17 +1,17 @@
 -- Pieces that tell a chunk: what each has, one behind another.
 use Rattle.std.proofs.Common.{◌≡◌, ℕ, ◌+◌, ◌<◌, ◌≤◌, ◌^◌, List, [], ◌∷◌, ◌++◌, length, inl, inr, sym, ap, subst, ◌∙◌, append-nil, append_assoc, arith}
-use Rattle.std.specs.Prelude.{◌⊎◌, Result, Ok, Err, IfOk}
+use Rattle.std.specs.Prelude.{◌⊎◌, cond, Result, Ok, Err, IfOk}
 use Rattle.std.specs.List.{AllByRecursion, concat}
 use Rattle.std.proofs.lemmas.List.{flat_map_more, length-append}
 use Rattle.buffer_state.specs.declared.chunk.Stage.{Stage}
 use Rattle.buffer_state.specs.declared.chunk.Stage.TheVariants.{Queued, Claimed}
-use Rattle.buffer_state.specs.State.{Chunk, size}
+use Rattle.buffer_state.specs.State.{Chunk, size, is_staged}
 use Rattle.buffer_state.specs.Steps.{greatest_size}
 use Rattle.event_modes.specs.Message.{longest_tag}
 use Rattle.event_modes.specs.Rows.{IsStored}
 use Rattle.chunk_journal.specs.Records.{Record, Append, Queue, append_fixed, append_head, body_of, longest_body, record_bytes, IsRecord}
 use Rattle.chunk_journal.specs.Journal.{journal_bytes}
-use Rattle.chunk_journal.specs.Meaning.{chunk_records, queueing}
+use Rattle.chunk_journal.specs.Meaning.{chunk_records}
 use Rattle.file_pieces.specs.Pieces.{AreWithin, CanTake, piece_bytes, pieces_bytes}
 use Rattle.file_pieces.specs.declared.piece.Piece.{Piece}
 use Rattle.chunk_journal.specs.Places.{Spots, AddsPlace, extent_before}
@@ -73,6 +73,10 @@ adds_there serial extent end own more bytes old new is end_is more_is adds =
 pub if_ok : {T E : Type 0} (P Q : T → Type 0) (result : Result T E) → IfOk result P → ((x : T) → P x → Q x) → IfOk result Q
 if_ok P Q (Ok x) is more = more x is
 if_ok P Q (Err e) is more = tt
+
+-- the Queue of a chunk in this stage
+abbrev pub queueing : ℕ → Stage → List Record
+queueing serial stage = cond (is_staged stage) [] (Queue serial ∷ [])
 
 queued_so : (serial : ℕ) (found : Stage) → (found ≡ Queued) ⊎ (found ≡ Claimed) → queueing serial found ≡ Queue serial ∷ []
 queued_so serial found (inl is) = ap (queueing serial) is

@@ -36,19 +36,19 @@ front l m = take-append-le (length l) l m (omega arith) ∙ take_all (length l) 
 -- a beginning of torn bytes is torn
 torn_front : (l m : List ℕ) → IsTorn (l ++ m) → IsTorn l
 torn_front l m torn =
-    let cut = cut_whole (l ++ m) [] (l ++ m) (length l) (record { begins = record { each = tt; whole = refl }; torn = torn }) in
-    subst IsTorn (sym cut.1.begins.whole ∙ front l m) cut.1.torn
+    let cut = cut_whole (l ++ m) [] (l ++ m) (length l) (record { each = tt; whole = refl; torn = torn }) in
+    subst IsTorn (sym cut.1.whole ∙ front l m) cut.1.torn
 
 torn_by : (l : List ℕ) (item : Record) (n : ℕ) (b : Bool) → ltb n (length (record_bytes item)) ≡ b → n < length (record_bytes item)
     → (end : List ℕ) × IsJournal l (take (cond b 0 (suc (within [] 0))) (item ∷ [])) end → IsTorn l
-torn_by l item n true e less j = subst IsTorn (sym j.1.begins.whole) j.1.torn
+torn_by l item n true e less j = subst IsTorn (sym j.1.whole) j.1.torn
 torn_by l item n false e less j = absurd (omega (arith, ltb-false _ _ e, less))
 
 -- so is a proper beginning of a record
 torn_record : (l m : List ℕ) (item : Record) (more : List ℕ) → IsRecord item → l ++ m ≡ record_bytes item ++ more → length l < length (record_bytes item) → IsTorn l
 torn_record l m item more is e less =
     let bytes = record_bytes item in
-    let cut = cut_whole bytes (item ∷ []) [] (length l) (record { begins = record { each = (is, tt); whole = sym (append-nil bytes) ∙ sym (append-nil (bytes ++ [])) }; torn = inl (omega arith) }) in
+    let cut = cut_whole bytes (item ∷ []) [] (length l) (record { each = (is, tt); whole = sym (append-nil bytes) ∙ sym (append-nil (bytes ++ [])); torn = inl (omega arith) }) in
     let same : take (length l) bytes ≡ l = sym (take-append-le (length l) bytes more (omega (arith, less))) ∙ sym (ap (take (length l)) e) ∙ front l m in
     torn_by l item (length l) (ltb (length l) (length bytes)) refl less (subst (λ (z : List ℕ). (end : List ℕ) × IsJournal z (take (within (item ∷ []) (length l)) (item ∷ [])) end) same cut)
 

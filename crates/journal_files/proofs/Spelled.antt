@@ -18,7 +18,7 @@ use Rattle.buffer_state.specs.Steps.{greatest_size}
 use Rattle.buffer_state.specs.Slots.{Slot, Slots, slot_size, chunks_in, AreBelow}
 use Rattle.chunk_journal.specs.Records.{Record, Seal, Append, Queue, record_bytes, IsRecord}
 use Rattle.chunk_journal.specs.Journal.{journal_bytes}
-use Rattle.chunk_journal.specs.Meaning.{Tells, IsUnsealed, after_all, chunk_records, queueing, AreTold}
+use Rattle.chunk_journal.specs.Meaning.{Tells, IsUnsealed, after_all, chunk_records, AreTold}
 use Rattle.chunk_journal.specs.Places.{Spots, LieAt, ArePlaced, AddsPlace, MovesPlaces, entries_at, extent_before, places_at}
 use Rattle.chunk_journal.specs.Laws.{PlacesFollow, TellsInOrder}
 use Rattle.chunk_journal.proofs.Answered.{each_front}
@@ -30,6 +30,7 @@ use Rattle.buffer_state.proofs.Serials.{at_itself, at_below}
 use Rattle.file_pieces.specs.Pieces.{AreWithin, pieces_bytes}
 use Rattle.file_pieces.specs.declared.piece.Piece.{Piece}
 use Rattle.journal_files.specs.JournalLogs.{records_of, state_of, new_generation}
+use Rattle.journal_files.proofs.Fronts.{queueing}
 use Rattle.journal_files.proofs.Placed.{ends_so}
 use Rattle.journal_files.proofs.Tags.{Short}
 
@@ -142,7 +143,7 @@ both [] back a b = b
 both (x ∷ front) back a b = (a.0, both front back a.1 b)
 
 nothing_placed : (serial : ℕ) → LieAt [] [] []
-nothing_placed serial = record { lie = refl; within = tt }
+nothing_placed serial = (tt, refl)
 
 pub starts : {A : Type 0} (pieces : List (Piece A)) (len : ℕ) (from spots : Spots) (slots : Slots) (s : State) → pieces ≡ [] → len ≡ 0 → spots ≡ [] → chunks_in slots ≡ s.chunks → AreTold 0 s.chunks s.next → s.next < 2 ^ 64 → Short s.chunks
     → All (λ slot. slot_size slot ≤ greatest_size) (values_of slots) → StillTold pieces len from spots slots s

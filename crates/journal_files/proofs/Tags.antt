@@ -84,7 +84,7 @@ module _ (Fits : Chunk → Type 0) where
     replayed_all : (bytes : List ℕ) (state : State) (used : ℕ) → IsReplayed bytes state used → AllFit state.chunks
     replayed_all bytes state used r =
         let l = r.generation.leads in
-        let each = subst (AllByRecursion IsRecord) l.whole r.journal.begins.each in
+        let each = subst (AllByRecursion IsRecord) l.whole r.journal.each in
         let told = after_each empty l.told (in_front l.told (Seal l.next ∷ l.steps) each) tt in
         let last = after_each (after (after_all empty l.told) (Seal l.next)) l.steps (in_back l.told (Seal l.next ∷ l.steps) each).1 told in
         subst (λ (s : State). AllFit s.chunks) (sym (r.generation.means ∙ ap settled l.here)) last

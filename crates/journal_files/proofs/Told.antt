@@ -20,7 +20,7 @@ module _ (journal : OpenJournal) (disk : Disk) (t : JournalLog) (keeps : Keeps j
   -- the places of a chunk's entries
   module _ (serial : ℕ) (extents : List Extent) (is : extents ≡ places_at journal.places serial) where
     pub within_told : AllByRecursion (IsWithin (length (journal_bytes (records_of t)))) extents
-    within_told = subst (AllByRecursion (IsWithin (length (journal_bytes (records_of t))))) (sym is) (keeps.placed serial).within
+    within_told = subst (AllByRecursion (IsWithin (length (journal_bytes (records_of t))))) (sym is) (keeps.placed serial).0
 
     pub lie_told : bytes_at (journal_bytes (records_of t)) extents ≡ entries_at (state_of t) serial
-    lie_told = ap (bytes_at (journal_bytes (records_of t))) is ∙ (keeps.placed serial).lie
+    lie_told = ap (bytes_at (journal_bytes (records_of t))) is ∙ (keeps.placed serial).1

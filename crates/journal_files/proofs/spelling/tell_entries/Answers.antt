@@ -17,11 +17,11 @@ returns-clause-bytes g c = λ seen are.
     let chunk = c.args.chunk.now.chunk in
     told_append (pieces_bytes seen c.args.pieces.now.items) (pieces_bytes seen c.put_piece.new.pieces.items) c.in_ok-front.front.items (bytes_at seen c.at.result.now)
     c.args.serial chunk.tag c.tag.result.now chunk.entries c.count.result c.size.result c.tag.ensures c.count.ensures c.size.ensures c.in_ok-front.ensures
-    (c.in_ok-put_piece.ensures.bytes seen) (ap (bytes_at seen) c.at.ensures ∙ are.lie)
+    (c.in_ok-put_piece.ensures.bytes seen) (ap (bytes_at seen) c.at.ensures ∙ are.1)
 
 pub returns-clause-within : goal.returns-clause-within
 returns-clause-within g c = λ seen small are before.
-    c.in_ok-put_piece.ensures.within seen small (subst (AllByRecursion (IsWithin (length seen))) (sym c.at.ensures) are.within) before
+    c.in_ok-put_piece.ensures.within seen small (subst (AllByRecursion (IsWithin (length seen))) (sym c.at.ensures) are.0) before
 
 pub returns-in_err-front-clause-record : goal.returns-in_err-front-clause-record
 returns-in_err-front-clause-record g c = append_record c.args.serial c.args.chunk.now.chunk.tag c.args.chunk.now.chunk.entries c.ranges.serial.fits c.requires.tag c.requires.small c.stays_stored.ensures
