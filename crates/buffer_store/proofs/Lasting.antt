@@ -18,7 +18,8 @@ use Rattle.buffer_state.proofs.Serials.{at_itself, at_below, at_above, at_same}
 use Rattle.chunk_journal.specs.Records.{Record, Seal, Append, Queue, Purge}
 use Rattle.chunk_journal.specs.Meaning.{Tells, Allows, Each, after, after_all}
 use Rattle.journal_files.specs.Disks.{Recovers}
-use Rattle.journal_files.specs.JournalLogs.{JournalLog, IsJournalLog, OpensWithin, state_of, state_at_seal, reopened_at, all_durable, new_generation}
+use Rattle.journal_files.specs.Folders.{OpensWithin}
+use Rattle.journal_files.specs.JournalLogs.{JournalLog, IsJournalLog, state_of, state_at_seal, reopened_at, all_durable, new_generation}
 use Rattle.buffer_store.specs.Buffers.{Held, with_more, durable_if}
 use Rattle.buffer_store.specs.Durability.{MayBeLost, LosesOnly, KeepsQueued, Lasts, LastsNow, IsDurable, IsLeft, IsNamed, Endures, durably}
 use Rattle.std.proofs.lemmas.Bool.{false≢true}

@@ -10,8 +10,8 @@ use Rattle.disk_files.specs.declared.dir.DirError.TheVariants as dir
 use Rattle.disk_files.proofs.Moments.{joined, weaker}
 use Rattle.chunk_journal.specs.Records.{Record}
 use Rattle.chunk_journal.specs.Meaning.{Allows}
-use Rattle.journal_files.specs.Folders.{journal_name}
-use Rattle.journal_files.specs.JournalLogs.{JournalLog, IsJournalLog, OpensWithin, begun, state_of}
+use Rattle.journal_files.specs.Folders.{journal_name, OpensWithin}
+use Rattle.journal_files.specs.JournalLogs.{JournalLog, IsJournalLog, begun, state_of}
 use Rattle.journal_files.specs.Views.{OpenJournal, IsReady}
 use Rattle.journal_files.specs.Disks.{Recovers, HasNoGap}
 use Rattle.journal_files.specs.Faults.{HasReason}

@@ -3,7 +3,7 @@ use Rattle.std.proofs.Common.{◌≡◌, ◌≢◌, ◌⊎◌, ⊎_elim, ℕ, re
 use Rattle.std.specs.Prelude.{Result, Ok, Err, OnErr}
 use Rattle.disk_files.specs.Disk.{SameDisk}
 use Rattle.disk_files.specs.Moments.{History, Elapses, now}
-use Rattle.disk_files.proofs.Moments.{started, rests}
+use Rattle.disk_files.proofs.Moments.{started, rests, passes_same}
 use Rattle.buffer_state.specs.State.{State}
 use Rattle.journal_files.specs.Faults.{HasReason}
 use Rattle.journal_files.proofs.Steps.{kept}
@@ -37,8 +37,7 @@ module _ {D : Type 0} (is_honest : D → Type 0) (history : D → History) (faul
   reads_none b e not = record {
     rest = refl;
     honest = λ h. h;
-    time = λ h. elapses_none (history b.dir);
-    same = λ h name. refl;
+    same = λ h. passes_same (history b.dir) (history b.dir) (elapses_none (history b.dir)) (λ name. refl);
     claims = λ h. claims_none history b;
     cause = reason_none (fault_count b.dir) (fault_count b.dir) e not refl;
   }
@@ -63,8 +62,7 @@ module _ {D : Type 0} (is_honest : D → Type 0) (history : D → History) (faul
   reads_by log next chunks settings result rest honest time same cause = record {
     rest = is;
     honest = honest;
-    time = time;
-    same = same;
+    same = λ h. passes_same (history log.dir) (history next.dir) (time h) (same h);
     claims = λ h. subst (λ (b : Held D). KeepsClaims history (held_of log chunks settings) b) (sym is) (claims_read (held_of log chunks settings) next.dir (time h) (same h));
     cause = cause;
   }

@@ -14,7 +14,8 @@ use Rattle.buffer_state.specs.declared.limits.Limits.{Limits}
 use Rattle.buffer_state.specs.declared.limits.AppendFault.TheVariants.{TooLarge, Full, LastSerial}
 use Rattle.chunk_journal.specs.Records.{Record, Seal, Append, Queue, Purge}
 use Rattle.chunk_journal.specs.Meaning.{Allows, after, after_all}
-use Rattle.journal_files.specs.JournalLogs.{JournalLog, IsJournalLog, OpensWithin, state_of, state_at_seal, begun, all_durable, new_generation}
+use Rattle.journal_files.specs.Folders.{OpensWithin}
+use Rattle.journal_files.specs.JournalLogs.{JournalLog, IsJournalLog, state_of, state_at_seal, begun, all_durable, new_generation}
 use Rattle.journal_files.specs.Views.{OpenJournal, HasShortTags}
 use Rattle.journal_files.specs.Disks.{Recovers, HasNoGap}
 use Rattle.journal_files.proofs.Recovery.{recovers}

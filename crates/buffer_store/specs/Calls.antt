@@ -1,10 +1,10 @@
 -- What the calls of a buffer have in common.
 use Rattle.std.specs.Prelude.{ℕ, ◌≡◌, ◌≢◌, ◌↔◌, ◌+◌, Bool, true, List, Option, None, Result, OnOk, OnErr, Err}
 use Rattle.disk_files.specs.Disk.{SameDisk, reads}
-use Rattle.disk_files.specs.Moments.{History, Elapses, LeavesOnly, now}
+use Rattle.disk_files.specs.Moments.{History, Passes, LeavesOnly, now}
 use Rattle.chunk_journal.specs.Records.{Record}
-use Rattle.journal_files.specs.Folders.{journal_name}
-use Rattle.journal_files.specs.JournalLogs.{JournalLog, IsJournalLog, OpensWithin}
+use Rattle.journal_files.specs.Folders.{journal_name, OpensWithin}
+use Rattle.journal_files.specs.JournalLogs.{JournalLog, IsJournalLog}
 use Rattle.journal_files.specs.Disks.{Recovers, HasNoGap}
 use Rattle.journal_files.specs.Faults.{HasReason}
 use Rattle.journal_files.specs.Leftovers.{LeavesAtMost}
@@ -74,14 +74,14 @@ pub record Begins {D T : Type 0} (history : D → History) (old new : Held D) (m
       → LeavesOnly (history old.dir) (history new.dir) (OpensWithin old.journal.path t)
   pub claims : KeepsClaims history old new
 
--- What a call that only reads leaves alone: the buffer, what the disk has, and each chunk that
--- was claimed. Time goes on, and the device may refuse.
+-- What a call that only reads leaves alone: the buffer, what the disk has at each moment, and each
+-- chunk that was claimed. Time goes on, and the device may refuse.
 pub record OnlyReads {D T : Type 0} (is_honest : D → Type 0) (history : D → History)
     (fault_count : D → ℕ) (old new : Held D) (result : Result T BufferFault) : Type 0 where
   pub rest : new ≡ record old { dir = new.dir }
   pub honest : is_honest old.dir → is_honest new.dir
-  pub time : is_honest old.dir → Elapses (history old.dir) (history new.dir)
-  pub same : is_honest old.dir → SameDisk (now (history new.dir)) (now (history old.dir))
+  pub same : is_honest old.dir
+      → Passes (history old.dir) (history new.dir) (SameDisk (now (history old.dir)))
   pub claims : is_honest old.dir → KeepsClaims history old new
   pub cause : HasReason (fault_count old.dir) (fault_count new.dir) result BufferFault.Fault
 

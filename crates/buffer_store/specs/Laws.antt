@@ -2,8 +2,8 @@
 use Rattle.std.specs.Prelude.{ℕ, List}
 use Rattle.disk_files.specs.Disk.{Disk, Folder, StopLeaves}
 use Rattle.buffer_state.specs.State.{State}
-use Rattle.journal_files.specs.Folders.{Opens, IsDamagedFolder}
-use Rattle.journal_files.specs.JournalLogs.{JournalLog, IsJournalLog, IsOfSome, OpensWithin}
+use Rattle.journal_files.specs.Folders.{Opens, OpensWithin}
+use Rattle.journal_files.specs.JournalLogs.{JournalLog, IsJournalLog, IsOfSome}
 use Rattle.journal_files.specs.Views.{OpenJournal}
 use Rattle.journal_files.specs.Disks.{Recovers}
 use Rattle.buffer_store.specs.Buffers.{Holds}
@@ -14,13 +14,12 @@ abbrev pub HoldsRecovers : Type 0
 HoldsRecovers = (journal : OpenJournal) (chunks : State) (disk : Disk) (t : JournalLog)
     → Holds journal chunks disk t → Recovers journal.path disk t
 
--- a folder that such a stop leaves isn't damaged, and opens to the state after some of the steps
--- told, all durable ones among them, and to no other
+-- a folder that such a stop leaves opens to no other state than one after some of the steps told,
+-- all durable ones among them
 abbrev pub RecoversWhatIsDurable : Type 0
 RecoversWhatIsDurable = (path : List ℕ) (disk : Disk) (t : JournalLog) (folder : Folder)
     → Recovers path disk t → StopLeaves disk folder
-    → OpensWithin path t folder × ((state : State) → Opens path folder state → IsOfSome t state)
-    × (IsDamagedFolder path folder → ⊥)
+    → (state : State) → Opens path folder state → IsOfSome t state
 
 -- a folder that opens so has each chunk that was queued durably as it was, or not at all, and the
 -- next serial is above each of them

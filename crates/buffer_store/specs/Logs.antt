@@ -8,8 +8,8 @@ use Rattle.buffer_state.specs.Steps.{settled, reopened}
 use Rattle.chunk_journal.specs.Records.{Record, Seal, Append, Queue, Purge}
 use Rattle.chunk_journal.specs.Meaning.{Allows}
 use Rattle.chunk_journal.specs.Places.{entries_at}
-use Rattle.journal_files.specs.Folders.{journal_name}
-use Rattle.journal_files.specs.JournalLogs.{JournalLog, IsJournalLog, OpensWithin, begun, all_durable, new_generation, state_of}
+use Rattle.journal_files.specs.Folders.{journal_name, OpensWithin}
+use Rattle.journal_files.specs.JournalLogs.{JournalLog, IsJournalLog, begun, all_durable, new_generation, state_of}
 use Rattle.journal_files.specs.Views.{OpenJournal, IsOpenIn}
 use Rattle.journal_files.specs.Disks.{Keeps, Recovers, HasNoGap}
 use Rattle.journal_files.specs.Faults.{HasReason}

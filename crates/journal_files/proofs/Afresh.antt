@@ -7,8 +7,8 @@ use Rattle.disk_files.specs.declared.dir.FileNo.{FileNo}
 use Rattle.disk_files.proofs.Moments.{joined}
 use Rattle.buffer_state.specs.State.{State}
 use Rattle.chunk_journal.specs.Places.{Spots}
-use Rattle.journal_files.specs.Folders.{journal_name}
-use Rattle.journal_files.specs.JournalLogs.{JournalLog, OpensWithin}
+use Rattle.journal_files.specs.Folders.{journal_name, OpensWithin}
+use Rattle.journal_files.specs.JournalLogs.{JournalLog}
 use Rattle.journal_files.specs.Disks.{Recovers, HasNoneFrom, HasAllBelow, HasNoGap}
 use Rattle.journal_files.specs.Found.{IsLastTaken, FindsSource}
 use Rattle.journal_files.specs.Sources.{HasSource}

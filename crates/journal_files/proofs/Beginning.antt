@@ -15,19 +15,19 @@ use Rattle.buffer_state.specs.State.{State}
 use Rattle.buffer_state.specs.Steps.{settled, reopened}
 use Rattle.chunk_journal.specs.Records.{Record, Seal, record_bytes, IsRecord}
 use Rattle.chunk_journal.specs.Journal.{journal_bytes}
-use Rattle.chunk_journal.specs.Meaning.{IsReplayed, EndsUnsealed, after_all, chunk_records, AreTold}
+use Rattle.chunk_journal.specs.Meaning.{EndsUnsealed, after_all, chunk_records, AreTold}
 use Rattle.chunk_journal.specs.Places.{Spots, ArePlaced}
 use Rattle.chunk_journal.proofs.Coming.{journal_push}
 use Rattle.chunk_journal.proofs.ChunkRecords.{told_so}
-use Rattle.journal_files.specs.Folders.{journal_name, IsPassedOver, PassesAbove, Opens}
-use Rattle.journal_files.specs.JournalLogs.{JournalLog, records_of, state_at_seal, state_of, reopened_at, new_generation, IsJournalLog, IsOfSome, OpensWithin}
+use Rattle.journal_files.specs.Folders.{journal_name, IsPassedOver, PassesAbove, IsSealed, Opens, OpensWithin}
+use Rattle.journal_files.specs.JournalLogs.{JournalLog, records_of, state_at_seal, state_of, reopened_at, new_generation, IsJournalLog, IsOfSome}
 use Rattle.journal_files.specs.declared.placing.Placing.TheVariants.{Stays}
 use Rattle.journal_files.specs.Views.{OpenJournal}
 use Rattle.journal_files.specs.Disks.{Keeps, Recovers, HasNoneFrom}
 use Rattle.file_pieces.specs.Adding.{IsLeftOf, Partly}
 use Rattle.journal_files.specs.Pieces.{HasNew, IsUnfinished, IsSealing, sealed}
 use Rattle.journal_files.proofs.Names.{apart, numbers_apart}
-use Rattle.journal_files.proofs.Cuts.{IsCut, cut}
+use Rattle.journal_files.proofs.Cuts.{IsCut, cut, sealed_of}
 use Rattle.journal_files.proofs.Recovery.{file_with, passed_none, recovers}
 use Rattle.journal_files.proofs.Steps.{all_last}
 
@@ -122,17 +122,14 @@ module _ (path : List ℕ) (folder hidden : Folder) (number : ℕ) (last : numbe
   pub opens_too : (state : State) → Opens path hidden state → Opens path folder state
   opens_too state (inr nothing) = inr (nothing.0, λ n above below. passes_too n below (nothing.1 n above below))
   opens_too state (inl o) =
-      let differ : number ≡ o.number → ⊥ = λ e. (let gone = sym none ∙ ap (λ (n : ℕ). hidden (journal_name path n)) e ∙ o.highest.there in cc gone) in
+      let differ : number ≡ o.number → ⊥ = λ e. (let gone = sym none ∙ ap (λ (n : ℕ). hidden (journal_name path n)) e ∙ o.there in cc gone) in
       inl (record {
         number = o.number;
+        first = o.first;
+        last = o.last;
         bytes = o.bytes;
-        used = o.used;
-        highest = record {
-          first = o.highest.first;
-          last = o.highest.last;
-          there = others o.number o.highest.last differ ∙ o.highest.there;
-          above = λ n above below. passes_too n below (o.highest.above n above below);
-        };
+        there = others o.number o.last differ ∙ o.there;
+        above = λ n above below. passes_too n below (o.above n above below);
         means = o.means;
       })
 
@@ -194,10 +191,12 @@ module _ (path : List ℕ) (number : ℕ) (t : JournalLog) (s : State) (can : Ca
     begun = m.begun;
     opens = inl (record {
       number = number;
+      first = first;
+      last = last;
       bytes = bytes;
-      used = c.used;
-      highest = record { first = first; last = last; there = there; above = above };
-      means = subst (λ (z : State). IsReplayed bytes z c.used) (state_same t s can.leads m c.steps c.begun) c.means;
+      there = there;
+      above = above;
+      means = subst (IsSealed bytes) (state_same t s can.leads m c.steps c.begun) (sealed_of bytes _ c.used c.means);
     });
   }
 

@@ -2,12 +2,16 @@
 use Rattle.std.proofs.Common.{◌≡◌, ◌⊎◌, ℕ, suc, ◌+◌, ◌-◌, ◌<◌, ◌≤◌, Bool, true, false, cond, ltb, List, [], ◌∷◌, ◌++◌, length, take, drop, length-take, refl, sym, ap, subst, ◌∙◌, append_assoc, arith, inl, inr}
 use Rattle.std.proofs.lemmas.Bool.{cases_lt, ltb-true}
 use Rattle.std.proofs.lemmas.List.{length-append, take-append-drop, append-nil}
-use Rattle.chunk_journal.specs.Records.{Record, Seal, record_bytes}
+use Rattle.std.specs.List.{AllByRecursion}
+use Rattle.buffer_state.specs.State.{State}
+use Rattle.buffer_state.specs.Steps.{settled}
+use Rattle.chunk_journal.specs.Records.{Record, Seal, record_bytes, IsRecord}
 use Rattle.chunk_journal.specs.Journal.{IsJournal, journal_bytes, within}
 use Rattle.chunk_journal.specs.Meaning.{Leads, IsReplayed, EndsUnsealed, after_all}
 use Rattle.chunk_journal.proofs.Answered.{cuts_before, cuts_behind}
 use Rattle.chunk_journal.proofs.Cuts.{cut_whole}
-use Rattle.journal_files.specs.JournalLogs.{JournalLog, records_of, durable_records, state_at_seal, state_of, reopened_at, IsJournalLog}
+use Rattle.journal_files.specs.Folders.{IsSealed}
+use Rattle.journal_files.specs.JournalLogs.{JournalLog, records_of, state_at_seal, state_of, reopened_at, IsJournalLog}
 
 -- ---- how many records
 
@@ -53,6 +57,32 @@ leads_of t is = record {
   allowed = is.allowed;
   whole = refl;
   here = refl;
+}
+
+-- a generation that is replayed is sealed
+pub sealed_of : (bytes : List ℕ) (state : State) (used : ℕ) → IsReplayed bytes state used → IsSealed bytes state
+sealed_of bytes state used r =
+    let l = r.generation.leads in
+    record {
+      logged = record { told = l.told; next = l.next; steps = l.steps; durable = 0 };
+      told = record { tells = l.tells; greater = l.greater; allowed = l.allowed; records = subst (AllByRecursion IsRecord) l.whole r.journal.each; few = omega arith };
+      rest = r.rest;
+      journal = subst (λ (z : List Record). IsJournal bytes z r.rest) l.whole r.journal;
+      means = r.generation.means ∙ ap settled l.here;
+    }
+
+-- how many bytes the records of a sealed generation have
+abbrev pub used_of : (bytes : List ℕ) (state : State) → IsSealed bytes state → ℕ
+used_of bytes state s = length (journal_bytes (records_of s.logged))
+
+-- a sealed generation is replayed
+pub replayed_of : (bytes : List ℕ) (state : State) (s : IsSealed bytes state) → IsReplayed bytes state (used_of bytes state s)
+replayed_of bytes state s = record {
+  records = records_of s.logged;
+  rest = s.rest;
+  journal = s.journal;
+  generation = record { last = state_of s.logged; leads = leads_of s.logged s.told; means = s.means };
+  ends = refl;
 }
 
 journal_of : (t : JournalLog) → IsJournalLog t → IsJournal (journal_bytes (records_of t)) (records_of t) []
@@ -105,6 +135,10 @@ cut t is n =
         unsealed = cuts_before (records_of t) (state_of t) (leads_of t is) j le;
       })
     ]
+
+-- the records that each stop leaves
+abbrev pub durable_records : JournalLog → List Record
+durable_records t = t.told ++ Seal t.next ∷ take t.durable t.steps
 
 -- where the durable records are whole, the durable steps are among those
 pub record IsDurableCut (t : JournalLog) (bytes : List ℕ) : Type 0 where

@@ -1,7 +1,6 @@
 -- The generation that opening begins is above all that were ever there.
 use Rattle.std.proofs.Common.{◌≡◌, ◌⊎◌, ℕ, ◌+◌, ◌<◌, ◌≤◌, ◌^◌, List, Option, Some, None, refl, sym, subst, ◌∙◌, arith, inl, inr, ⊎_elim}
 use Rattle.std.specs.Prelude.{IsSome}
-use Rattle.std.proofs.lemmas.Bool.{cases_lt}
 use Rattle.std.specs.Ordering.{nat_cmp}
 use Rattle.std.specs.BTreeMap.{BTreeMap, get}
 use Rattle.disk_files.specs.declared.dir.FileNo.{FileNo}
@@ -13,12 +12,8 @@ use Rattle.journal_files.specs.Disks.{Keeps, HasNoneFrom, HasAllBelow, HasNoGap}
 use Rattle.journal_files.specs.Found.{IsFound, IsLastTaken}
 use Rattle.journal_files.proofs.Names.{same_number}
 use Rattle.journal_files.specs.Pieces.{IsAbove, IsGoneBut}
-use Rattle.journal_files.proofs.Strays.{not_some, same_below}
+use Rattle.journal_files.proofs.Strays.{none_of, not_some, same_below}
 use Rattle.journal_files.proofs.Beginning.{kept_above}
-
-none_of : {A : Type 0} (o : Option A) → (IsSome o → ⊥) → o ≡ None
-none_of None no_some = refl
-none_of (Some x) no_some = absurd (no_some refl)
 
 -- what holds of a name whose file was removed, of a disk that is the same
 pub removed_same : (a b : Disk) (name : List ℕ) → SameDisk a b → WasRemoved a name → WasRemoved b name
@@ -36,30 +31,20 @@ last_taken_so path disk mid there taken same found from own free = record {
 }
 
 -- none above it was ever begun
-not_begun : (path : List ℕ) (disk : Disk) (greatest n : ℕ) → IsLastTaken path disk greatest → HasNoGap path disk → greatest < n → n < 2 ^ 32 → IsSome (disk (journal_name path n)) → ⊥
-not_begun path disk greatest n taken gap over below some =
-    elim (cases_lt (greatest + 1) n) [
-      | inl lt ↦
-          ⊎_elim (λ begun. taken.free (begun, taken.above (greatest + 1) (omega arith) (omega (arith, lt, below))))
-          (λ b. not_some (reads disk (journal_name path b.number)) (taken.above b.number (omega (arith, b.above)) b.last) b.there)
-          (gap n (omega (arith, over)) below some (greatest + 1) (omega arith) lt)
-      | inr le ↦ taken.free (subst (λ (k : ℕ). WasRemoved disk (journal_name path k)) (omega (arith, le, over)) (some, taken.above n over below))
-    ]
-
 pub none_above : (path : List ℕ) (disk mid : Disk) (greatest number : ℕ) → number ≡ greatest + 1 → IsLastTaken path disk greatest → HasNoGap path disk → SameDisk mid disk → HasNoneFrom path mid number
 none_above path disk mid greatest number is taken gap same n from below =
-    same (journal_name path n) ∙ none_of (disk (journal_name path n)) (not_begun path disk greatest n taken gap (omega (arith, from, is)) below)
+    let free : disk (journal_name path (greatest + 1)) ≡ None =
+    none_of (disk (journal_name path (greatest + 1))) (λ some. taken.free (some, taken.above (greatest + 1) (omega arith) (omega (arith, from, is, below)))) in
+    same (journal_name path n) ∙ gap (greatest + 1) (omega arith) free (λ m over within. taken.above m (omega (arith, over)) within) n (omega (arith, from, is)) below
 
 -- and all up to it were, or are below one that reads
 up_to_read : (path : List ℕ) (disk : Disk) (greatest : ℕ) → HasNoGap path disk → greatest + 1 < 2 ^ 32 → (greatest ≡ 0) ⊎ (IsSome (reads disk (journal_name path greatest)) ⊎ WasRemoved disk (journal_name path greatest))
     → HasAllBelow path disk (greatest + 1)
-up_to_read path disk greatest gap last (inl none) m low under = absurd (omega (arith, none, low, under))
-up_to_read path disk greatest gap last (inr (inl there)) m low under = inr (record { number = greatest; above = omega (arith, under); last = omega (arith, last); there = there })
-up_to_read path disk greatest gap last (inr (inr removed)) m low under =
-    elim (cases_lt m greatest) [
-      | inl lt ↦ gap greatest (omega (arith, low, lt)) (omega (arith, last)) removed.0 m low lt
-      | inr le ↦ inl (subst (λ (k : ℕ). IsSome (disk (journal_name path k))) (omega (arith, le, under)) removed.0)
-    ]
+up_to_read path disk greatest gap last (inl none) k low under free unread = absurd (omega (arith, none, low, under))
+up_to_read path disk greatest gap last (inr (inl there)) k low under free unread =
+    not_some (reads disk (journal_name path greatest)) (unread greatest (omega (arith, under)) (omega (arith, last))) there
+up_to_read path disk greatest gap last (inr (inr removed)) k low under free unread =
+    not_some (disk (journal_name path greatest)) (gap k low free unread greatest (omega (arith, under)) (omega (arith, last))) removed.0
 
 pub all_below : (path : List ℕ) (disk mid : Disk) (greatest : ℕ) → IsLastTaken path disk greatest → HasNoGap path disk → greatest + 1 < 2 ^ 32 → SameDisk mid disk → HasAllBelow path mid (greatest + 1)
 all_below path disk mid greatest taken gap last same = same_below path disk mid (greatest + 1) same (up_to_read path disk greatest gap last taken.begun)
@@ -86,11 +71,17 @@ opened_alone path number n files old mid new last under same elsewhere gone =
     let is : new name ≡ old name = elsewhere name (λ e. let numbers = same_number path n number (omega (arith, under, last)) last e in omega (arith, numbers, under)) ∙ same name in
     subst (λ (o : Option File). (read_of o ≡ None) ⊎ IsSome (get nat_cmp files n)) (sym is) gone
 
+-- a file that reads, or was removed, was begun
+ever_begun : (o : Option File) → IsSome (read_of o) ⊎ (IsSome o × (read_of o ≡ None)) → IsSome o
+ever_begun None (inl some) = absurd (cc some)
+ever_begun None (inr removed) = removed.0
+ever_begun (Some f) begun = refl
+
 -- the number above the last that is taken is the next
 pub is_next : (path : List ℕ) (disk : Disk) (greatest number : ℕ) → number ≡ greatest + 1 → IsLastTaken path disk greatest → IsNext path disk number
 is_next path disk greatest number is taken = subst (IsNext path disk) (sym is) (record {
   some = omega arith;
   before = ⊎_elim (λ none. inl (omega (arith, none)))
-      (λ begun. inr (subst (λ (n : ℕ). IsSome (reads disk (journal_name path n)) ⊎ WasRemoved disk (journal_name path n)) (omega arith) begun)) taken.begun;
+      (λ begun. inr (subst (λ (n : ℕ). IsSome (disk (journal_name path n))) (omega arith) (ever_begun (disk (journal_name path greatest)) begun))) taken.begun;
   above = λ n from below. taken.above n (omega (arith, from)) below;
 })

@@ -1,5 +1,5 @@
 -- A generation that isn't begun whole is given up.
-use Rattle.std.proofs.Common.{◌≡◌, ◌≢◌, ◌⊎◌, ⊎_elim, ℕ, ◌≤◌, Bool, true, false, cond, List, [], Option, Some, None, option_map, Err, refl, sym, ap, subst, ◌∙◌, arith, inl, inr}
+use Rattle.std.proofs.Common.{◌≡◌, ◌≢◌, ◌⊎◌, ⊎_elim, ℕ, ◌+◌, ◌-◌, ◌^◌, ◌≤◌, Bool, true, false, cond, List, [], Option, Some, None, option_map, Err, refl, sym, ap, subst, ◌∙◌, arith, inl, inr}
 use Rattle.std.specs.Prelude.{IsErrOf}
 use Rattle.std.specs.Str.{bytes_eq}
 use Rattle.std.proofs.lemmas.Option.{same_Some}
@@ -14,8 +14,8 @@ use Rattle.disk_files.proofs.Moments.{here, elsewhere, follows, goes_on, rests}
 use Rattle.file_pieces.specs.Adding.{HasPieceCause}
 use Rattle.file_pieces.specs.declared.error.PieceError.{PieceError}
 use Rattle.file_pieces.specs.declared.error.PieceError.TheVariants as piece
-use Rattle.journal_files.specs.Faults.{HasReason, FailsAgain, dir_error}
-use Rattle.journal_files.specs.Leftovers.{ReadsAs, IsGivenUp, LeavesNext}
+use Rattle.journal_files.specs.Faults.{HasReason, dir_error}
+use Rattle.journal_files.specs.Leftovers.{ReadsAs, IsGivenUp, LeavesAtMost}
 use Rattle.journal_files.specs.Folders.{journal_name, IsNext}
 use Rattle.journal_files.specs.Pieces.{HasNew, IsTakenAway, AnswersFor}
 use Rattle.journal_files.specs.declared.error.JournalError.{JournalError}
@@ -58,7 +58,7 @@ reads_at : (b : Bool) (own : Option File) (f : File) → (b ≡ true → own ≡
 reads_at true own f none = sym (ap read_of (none refl))
 reads_at false own f none = refl
 
-fails_again : (a b c : ℕ) → Rises a b → b ≤ c → Rises b c → FailsAgain a c
+fails_again : (a b c : ℕ) → Rises a b → b ≤ c → Rises b c → (a + 2 ≤ c) ⊎ (2 ^ 64 - 1 ≤ c)
 fails_again a b c (inl first) later (inl second) = inl (omega (arith, first, second))
 fails_again a b c (inl first) later (inr greatest) = inr greatest
 fails_again a b c (inr greatest) later second = inr (omega (arith, greatest, later))
@@ -71,22 +71,24 @@ new_given_up a b c name bytes old mid new has first later (inl changes) =
     inl (λ q. ap read_of (after q) ∙ reads_at (bytes_eq name q) (old q) file (λ e. ap old (sym ((bytes_eq-Decides name q).0 e)) ∙ has.none))
 new_given_up a b c name bytes old mid new has first later (inr stays) = inr (record {
   bytes = bytes;
-  new = record { none = has.none; made = λ q. stays.0 q ∙ has.made q };
+  none = has.none;
+  made = λ q. stays.0 q ∙ has.made q;
   why = inr (fails_again a b c first later stays.1);
 })
 
 -- the device failed in making it
 pub not_made : (a b : ℕ) (name : List ℕ) (old new : Disk) → SameDisk new old ⊎ Makes name old new → IsGivenUp a b name old new
 not_made a b name old new (inl same) = inl (λ q. ap read_of (same q))
-not_made a b name old new (inr made) = inr (record { bytes = []; new = record { none = made.0; made = made.1 }; why = inl refl })
+not_made a b name old new (inr made) = inr (record { bytes = []; none = made.0; made = made.1; why = inl refl })
 
 -- behind calls that changed nothing, and weren't refused
 pub given_up_behind : (a b c : ℕ) (name : List ℕ) (old mid new : Disk) → b ≡ a → SameDisk mid old → IsGivenUp b c name mid new → IsGivenUp a c name old new
 given_up_behind a b c name old mid new quiet same (inl reads_so) = inl (λ q. reads_so q ∙ ap read_of (same q))
 given_up_behind a b c name old mid new quiet same (inr stays) = inr (record {
   bytes = stays.bytes;
-  new = record { none = sym (same name) ∙ stays.new.none; made = λ q. stays.new.made q ∙ ap (cond (bytes_eq name q) (Some (with_bytes stays.bytes new_file))) (same q) };
-  why = ⊎_elim (λ none. inl none) (λ again. inr (subst (λ (n : ℕ). FailsAgain n c) quiet again)) stays.why;
+  none = sym (same name) ∙ stays.none;
+  made = λ q. stays.made q ∙ ap (cond (bytes_eq name q) (Some (with_bytes stays.bytes new_file))) (same q);
+  why = ⊎_elim (λ none. inl none) (λ again. inr (subst (λ (n : ℕ). (n + 2 ≤ c) ⊎ (2 ^ 64 - 1 ≤ c)) quiet again)) stays.why;
 })
 
 -- other files
@@ -141,7 +143,12 @@ pub copy_rises : {T : Type 0} (a m b : ℕ) (e : PieceError) → m ≡ a → Has
 copy_rises a m b piece.Fault passed c whole = subst (λ (n : ℕ). Rises n b) passed (c.failed refl)
 copy_rises a m b piece.Short passed c whole = absurd (whole refl)
 
+-- what is left of a generation that was given up
+pub at_most : (path : List ℕ) (number a b : ℕ) (old new : Disk) → IsGivenUp a b (journal_name path number) old new → LeavesAtMost path number a b old new
+at_most path number a b old new (inl reads_so) = inl reads_so
+at_most path number a b old new (inr stays) = inr (inl stays)
+
 -- the file of the next generation was given up
-pub left_next : (path : List ℕ) (number a b : ℕ) (old new : Disk) → IsNext path old number → IsGivenUp a b (journal_name path number) old new → ReadsAs old new ⊎ LeavesNext path a b old new
+pub left_next : (path : List ℕ) (number a b : ℕ) (old new : Disk) → IsNext path old number → IsGivenUp a b (journal_name path number) old new → ReadsAs old new ⊎ ((n : ℕ) × IsNext path old n × LeavesAtMost path n a b old new)
 left_next path number a b old new next (inl reads_so) = inl reads_so
-left_next path number a b old new next (inr stays) = inr (record { number = number; next = next; left = inl (inr stays) })
+left_next path number a b old new next (inr stays) = inr (number, next, inr (inl stays))

@@ -7,6 +7,7 @@ use Rattle.buffer_state.specs.State.{State}
 use Rattle.chunk_journal.specs.Meaning.{IsReplayed, IsDamaged, Answer, Means, NotSealed, BadRecord}
 use Rattle.chunk_journal.specs.Laws.{AnswersOneWay}
 use Rattle.journal_files.specs.Folders.{journal_name, IsPassedOver, OpensBy, Opens, IsDamagedFolder}
+use Rattle.journal_files.proofs.Cuts.{used_of, replayed_of}
 
 state_in : State → Answer → State
 state_in other (Means state used) = state
@@ -26,12 +27,13 @@ module _ (law : AnswersOneWay) where
 
   not_below : (path : List ℕ) (folder : Folder) (one other : State) (a : OpensBy path folder one) (b : OpensBy path folder other) → a.number < b.number → ⊥
   not_below path folder one other a b lt =
-      counts b.bytes (folder (journal_name path b.number)) other b.used b.highest.there b.means (a.highest.above b.number lt b.highest.last)
+      counts b.bytes (folder (journal_name path b.number)) other _ b.there (replayed_of b.bytes other b.means) (a.above b.number lt b.last)
 
   same_generation : (path : List ℕ) (folder : Folder) (one other : State) (a : OpensBy path folder one) (b : OpensBy path folder other) → a.number ≡ b.number → one ≡ other
   same_generation path folder one other a b e =
-      let same : a.bytes ≡ b.bytes = same_Some _ _ (sym a.highest.there ∙ ap (λ (n : ℕ). folder (journal_name path n)) e ∙ b.highest.there) in
-      same_state b.bytes one other a.used b.used (subst (λ (z : List ℕ). IsReplayed z one a.used) same a.means) b.means
+      let same : a.bytes ≡ b.bytes = same_Some _ _ (sym a.there ∙ ap (λ (n : ℕ). folder (journal_name path n)) e ∙ b.there) in
+      let used = used_of a.bytes one a.means in
+      same_state b.bytes one other used (used_of b.bytes other b.means) (subst (λ (z : List ℕ). IsReplayed z one used) same (replayed_of a.bytes one a.means)) (replayed_of b.bytes other b.means)
 
   pub one_way : (path : List ℕ) (folder : Folder) (one other : State) → Opens path folder one → Opens path folder other → one ≡ other
   one_way path folder one other (inl a) (inl b) =
@@ -43,9 +45,9 @@ module _ (law : AnswersOneWay) where
         ]
       ]
   one_way path folder one other (inl a) (inr b) =
-      absurd (counts a.bytes (folder (journal_name path a.number)) one a.used a.highest.there a.means (b.1 a.number (omega (arith, a.highest.first)) a.highest.last))
+      absurd (counts a.bytes (folder (journal_name path a.number)) one _ a.there (replayed_of a.bytes one a.means) (b.1 a.number (omega (arith, a.first)) a.last))
   one_way path folder one other (inr a) (inl b) =
-      absurd (counts b.bytes (folder (journal_name path b.number)) other b.used b.highest.there b.means (a.1 b.number (omega (arith, b.highest.first)) b.highest.last))
+      absurd (counts b.bytes (folder (journal_name path b.number)) other _ b.there (replayed_of b.bytes other b.means) (a.1 b.number (omega (arith, b.first)) b.last))
   one_way path folder one other (inr a) (inr b) = a.0 ∙ sym b.0
 
   -- a damaged generation isn't passed over
@@ -56,16 +58,17 @@ module _ (law : AnswersOneWay) where
 
   at_one : (path : List ℕ) (folder : Folder) (state : State) (a : OpensBy path folder state) (d : IsDamagedFolder path folder) → a.number ≡ d.number → ⊥
   at_one path folder state a d e =
-      let same : a.bytes ≡ d.bytes = same_Some _ _ (sym a.highest.there ∙ ap (λ (n : ℕ). folder (journal_name path n)) e ∙ d.highest.there) in
-      let differs : Means state a.used ≡ BadRecord = law d.bytes (Means state a.used) BadRecord (subst (λ (z : List ℕ). IsReplayed z state a.used) same a.means) d.damaged in
+      let same : a.bytes ≡ d.bytes = same_Some _ _ (sym a.there ∙ ap (λ (n : ℕ). folder (journal_name path n)) e ∙ d.highest.there) in
+      let used = used_of a.bytes state a.means in
+      let differs : Means state used ≡ BadRecord = law d.bytes (Means state used) BadRecord (subst (λ (z : List ℕ). IsReplayed z state used) same (replayed_of a.bytes state a.means)) d.damaged in
       cc differs
 
   pub undamaged : (path : List ℕ) (folder : Folder) (state : State) → Opens path folder state → IsDamagedFolder path folder → ⊥
   undamaged path folder state (inl a) d =
       elim (cases_lt a.number d.number) [
-        | inl lt ↦ broken d.bytes (folder (journal_name path d.number)) d.highest.there d.damaged (a.highest.above d.number lt d.highest.last)
+        | inl lt ↦ broken d.bytes (folder (journal_name path d.number)) d.highest.there d.damaged (a.above d.number lt d.highest.last)
         | inr le ↦ elim (cases_lt d.number a.number) [
-          | inl lt ↦ counts a.bytes (folder (journal_name path a.number)) state a.used a.highest.there a.means (d.highest.above a.number lt a.highest.last)
+          | inl lt ↦ counts a.bytes (folder (journal_name path a.number)) state _ a.there (replayed_of a.bytes state a.means) (d.highest.above a.number lt a.last)
           | inr ge ↦ at_one path folder state a d (omega (arith, le, ge))
         ]
       ]

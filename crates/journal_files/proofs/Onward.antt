@@ -7,8 +7,8 @@ use Rattle.disk_files.specs.declared.dir.FileNo.{FileNo}
 use Rattle.buffer_state.specs.State.{State}
 use Rattle.buffer_state.specs.Steps.{settled, reopened}
 use Rattle.chunk_journal.specs.Places.{Spots}
-use Rattle.journal_files.specs.Folders.{journal_name}
-use Rattle.journal_files.specs.JournalLogs.{JournalLog, IsOfSome, OpensWithin, state_of}
+use Rattle.journal_files.specs.Folders.{journal_name, OpensWithin}
+use Rattle.journal_files.specs.JournalLogs.{JournalLog, IsOfSome, state_of}
 use Rattle.journal_files.specs.Views.{OpenJournal, IsOpenIn}
 use Rattle.journal_files.specs.Disks.{Keeps, Recovers, HasNoneFrom, HasAllBelow}
 use Rattle.journal_files.specs.Sources.{HasSource}

@@ -5,7 +5,8 @@ use Rattle.disk_files.specs.Moments.{History, now, Elapses, LeavesOnly}
 use Rattle.disk_files.proofs.Moments.{started, rests, joined, weaker, leaves_same}
 use Rattle.buffer_state.specs.State.{State}
 use Rattle.buffer_state.specs.Steps.{settled, reopened}
-use Rattle.journal_files.specs.JournalLogs.{JournalLog, state_of, new_generation as opened_with, IsOfSome, OpensWithin}
+use Rattle.journal_files.specs.Folders.{OpensWithin}
+use Rattle.journal_files.specs.JournalLogs.{JournalLog, state_of, new_generation as opened_with, IsOfSome}
 use Rattle.journal_files.specs.Views.{OpenJournal}
 use Rattle.journal_files.specs.Disks.{Keeps, Recovers, HasNoGap}
 use Rattle.journal_files.specs.Leftovers.{IsWholeAt}

@@ -2,11 +2,11 @@
 use Rattle.std.proofs.Common.{◌≡◌, ⊎_elim, ℕ, ◌<◌, ◌≤◌, ◌^◌, true, false, List, length, take, Option, Some, None, sym, ap, subst, arith, inl}
 use Rattle.disk_files.specs.Disk.{File, Disk, Folder, MayStay}
 use Rattle.chunk_journal.specs.Journal.{journal_bytes}
-use Rattle.journal_files.specs.Folders.{journal_name, IsPassedOver, PassesAbove}
-use Rattle.journal_files.specs.JournalLogs.{JournalLog, records_of, OpensWithin}
+use Rattle.journal_files.specs.Folders.{journal_name, IsPassedOver, PassesAbove, OpensWithin}
+use Rattle.journal_files.specs.JournalLogs.{JournalLog, records_of}
 use Rattle.journal_files.specs.Views.{OpenJournal}
 use Rattle.journal_files.specs.Disks.{Keeps, Recovers}
-use Rattle.journal_files.proofs.Cuts.{IsDurableCut, durable_cut}
+use Rattle.journal_files.proofs.Cuts.{IsDurableCut, durable_cut, sealed_of}
 
 -- the file of a journal on a disk
 abbrev pub file_with : List ℕ → ℕ → File
@@ -35,10 +35,12 @@ opens_cut path folder number t bytes first last there above c = record {
   begun = c.cut.begun;
   opens = inl (record {
     number = number;
+    first = first;
+    last = last;
     bytes = bytes;
-    used = c.cut.used;
-    highest = record { first = first; last = last; there = there; above = above };
-    means = c.cut.means;
+    there = there;
+    above = above;
+    means = sealed_of bytes _ c.cut.used c.cut.means;
   });
 }
 

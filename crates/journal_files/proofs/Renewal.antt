@@ -5,7 +5,8 @@ use Rattle.disk_files.specs.Disk.{SameDisk}
 use Rattle.disk_files.specs.Moments.{History, LeavesOnly, now}
 use Rattle.buffer_state.specs.State.{State}
 use Rattle.journal_files.specs.Calls.{Renews, RefusesRenewal}
-use Rattle.journal_files.specs.JournalLogs.{JournalLog, OpensWithin}
+use Rattle.journal_files.specs.Folders.{OpensWithin}
+use Rattle.journal_files.specs.JournalLogs.{JournalLog}
 use Rattle.journal_files.specs.Views.{OpenJournal}
 use Rattle.journal_files.specs.Disks.{Recovers}
 use Rattle.journal_files.specs.Leftovers.{LeavesAtMost}

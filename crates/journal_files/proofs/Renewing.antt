@@ -9,13 +9,14 @@ use Rattle.disk_files.specs.declared.dir.FileNo.{FileNo}
 use Rattle.disk_files.proofs.Moments.{here, elsewhere, goes_on}
 use Rattle.buffer_state.specs.State.{State}
 use Rattle.buffer_state.specs.Steps.{settled, reopened}
-use Rattle.journal_files.specs.Folders.{journal_name}
-use Rattle.journal_files.specs.JournalLogs.{JournalLog, state_of, new_generation, IsOfSome, OpensWithin}
+use Rattle.journal_files.specs.Folders.{journal_name, OpensWithin}
+use Rattle.journal_files.specs.JournalLogs.{JournalLog, state_of, new_generation, IsOfSome}
 use Rattle.journal_files.specs.Views.{OpenJournal, IsOpenIn}
-use Rattle.journal_files.specs.Disks.{Keeps, Recovers, HasNoneFrom, IsBelowSome, HasAllBelow}
+use Rattle.journal_files.specs.Disks.{Keeps, Recovers, HasNoneFrom, HasAllBelow}
 use Rattle.journal_files.proofs.Names.{same_number, numbers_apart, apart}
 use Rattle.journal_files.proofs.Recovery.{recovers}
 use Rattle.journal_files.proofs.Steps.{either}
+use Rattle.journal_files.proofs.Strays.{not_some}
 use Rattle.journal_files.proofs.Beginning.{kept_above, renewed}
 
 -- what the older generation gives to begin with
@@ -27,12 +28,9 @@ module _ (journal : OpenJournal) (old : Disk) (t : JournalLog) (keeps : Keeps jo
   recovers_at = subst (λ (p : List ℕ). Recovers p old t) (sym path_is) (recovers journal old t keeps)
 
   pub all_at : HasAllBelow path old number
-  all_at m low under = inr (subst (λ (p : List ℕ). IsBelowSome p old m) (sym path_is) (record {
-    number = journal.number;
-    above = omega (arith, under, number_is);
-    last = keeps.last;
-    there = subst (λ (o : Option File). IsSome (read_of o)) (sym keeps.there) refl;
-  }))
+  all_at k low under free unread =
+      not_some (reads old (journal_name path journal.number)) (unread journal.number (omega (arith, under, number_is)) keeps.last)
+      (subst (λ (p : List ℕ). IsSome (reads old (journal_name p journal.number))) (sym path_is) (subst (λ (o : Option File). IsSome (read_of o)) (sym keeps.there) refl))
 
 -- the older file is removed
 module _ (journal next : OpenJournal) (mid new : Disk) (path_is : next.path ≡ journal.path) (number_is : next.number ≡ journal.number + 1) (last : journal.number < 2 ^ 32) where

@@ -16,6 +16,7 @@ use Rattle.chunk_journal.specs.Meaning.{EndsUnsealed, IsDamaged}
 use Rattle.chunk_journal.specs.Places.{Spots}
 use Rattle.journal_files.specs.Folders.{journal_name, IsPassedOver, PassesAbove, IsHighest, Opens, IsDamagedFolder}
 use Rattle.journal_files.specs.Found.{IsFound, IsMeant, IsSo}
+use Rattle.journal_files.proofs.Cuts.{sealed_of}
 
 -- each generation is still to be looked at, or is passed over
 pub record IsLeft (path : List ℕ) (folder : Folder) (rest : BTreeSet ℕ) : Type 0 where
@@ -65,7 +66,7 @@ module _ (path : List ℕ) (folder : Folder) (k : ℕ) (old new : BTreeSet ℕ) 
   highest bytes there = record { first = left.from_one k taken.member; last = below; there = there; above = above_it }
 
   pub opens_it : (state : State) (spots : Spots) → IsMeant (folder (journal_name path k)) state spots → Opens path folder state
-  opens_it state spots m = inl (record { number = k; bytes = m.bytes; used = m.used; highest = highest m.bytes m.there; means = m.means.replayed })
+  opens_it state spots m = inl (record { number = k; first = left.from_one k taken.member; last = below; bytes = m.bytes; there = m.there; above = above_it; means = sealed_of m.bytes state m.used m.means.replayed })
 
   pub damaged_it : IsSo (folder (journal_name path k)) IsDamaged → IsDamagedFolder path folder
   damaged_it d = record { number = k; bytes = d.bytes; highest = highest d.bytes d.there; damaged = d.so }

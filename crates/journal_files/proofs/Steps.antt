@@ -15,12 +15,13 @@ use Rattle.chunk_journal.specs.Places.{MovesPlaces}
 use Rattle.chunk_journal.specs.Laws.{PlacesFollow, LeadsInOrder}
 use Rattle.chunk_journal.proofs.Coming.{journal_push}
 use Rattle.chunk_journal.proofs.Standing.{each_more}
-use Rattle.journal_files.specs.Folders.{journal_name, Opens}
-use Rattle.journal_files.specs.JournalLogs.{JournalLog, records_of, durable_records, state_at_seal, state_of, IsJournalLog, begun, all_durable, OpensWithin}
+use Rattle.journal_files.specs.Folders.{journal_name, Opens, OpensWithin}
+use Rattle.journal_files.specs.JournalLogs.{JournalLog, records_of, state_at_seal, state_of, IsJournalLog, begun, all_durable}
 use Rattle.journal_files.specs.declared.placing.Placing.{Placing}
 use Rattle.journal_files.specs.Placings.{placing_of, MovesBy}
 use Rattle.journal_files.specs.Views.{OpenJournal, IsReady}
 use Rattle.journal_files.specs.Disks.{Keeps, Recovers}
+use Rattle.journal_files.proofs.Cuts.{durable_records}
 use Rattle.journal_files.proofs.Names.{numbers_apart}
 use Rattle.journal_files.proofs.Placed.{placed_begun, moves_so}
 use Rattle.journal_files.proofs.Recovery.{file_with, recovers}

@@ -1,13 +1,13 @@
 -- No generation that was ever begun is above all that read.
-use Rattle.std.proofs.Common.{◌≡◌, ◌⊎◌, ℕ, ◌<◌, ◌≤◌, ◌^◌, List, Option, Some, None, option_map, refl, sym, ap, subst, ◌∙◌, arith, inl, inr}
+use Rattle.std.proofs.Common.{◌≡◌, ℕ, ◌<◌, ◌≤◌, ◌^◌, List, Option, Some, None, option_map, refl, sym, ap, subst, ◌∙◌, arith, inl, inr, ⊎_elim}
 use Rattle.std.specs.Prelude.{IsSome}
-use Rattle.std.proofs.lemmas.Bool.{cases_lt}
+use Rattle.std.proofs.lemmas.Bool.{cases_eq, cases_lt}
 use Rattle.disk_files.specs.Disk.{File, Disk, Folder, SameDisk, Changes, with_bytes, kept_file, after_stop, read_of, reads}
 use Rattle.disk_files.proofs.Moments.{here, elsewhere}
 use Rattle.journal_files.specs.Folders.{journal_name}
 use Rattle.journal_files.specs.JournalLogs.{JournalLog}
 use Rattle.journal_files.specs.Views.{OpenJournal}
-use Rattle.journal_files.specs.Disks.{Keeps, HasNoneFrom, HasNoStray, IsBelowSome, HasAllBelow, HasNoGap}
+use Rattle.journal_files.specs.Disks.{Keeps, HasNoneFrom, HasNoStray, HasAllBelow, HasNoGap}
 use Rattle.journal_files.proofs.Names.{same_number, numbers_apart}
 
 pub not_some : {A : Type 0} (o : Option A) → o ≡ None → IsSome o → ⊥
@@ -64,39 +64,41 @@ grown_no_stray journal old new t bytes keeps changes =
     highest_reads journal.path new journal.number keeps.last (subst (λ (o : Option File). IsSome (read_of o)) (sym at) refl)
     (λ n above below. elsewhere old new name (journal_name journal.path n) _ changes (numbers_apart journal.path journal.number n keeps.last below (λ e. omega (arith, e, above))) ∙ keeps.newest n above below)
 
+pub none_of : {A : Type 0} (o : Option A) → (IsSome o → ⊥) → o ≡ None
+none_of None no_some = refl
+none_of (Some x) no_some = absurd (no_some refl)
+
 -- where none is above all that read, those that were removed leave no gap
 pub no_gap_of : (path : List ℕ) (disk : Disk) → HasNoStray path disk → HasNoGap path disk
-no_gap_of path disk stray n from below some m low under =
-    let b = stray n from below some in
-    inr (record { number = b.number; above = omega (arith, b.above, under); last = b.last; there = b.there })
+no_gap_of path disk stray number low free unread n from below = none_of (disk (journal_name path n)) (λ some.
+    let b = stray n (omega (arith, low, from)) below some in
+    not_some (reads disk (journal_name path b.number)) (unread b.number (omega (arith, from, b.above)) b.last) b.there)
 
 pub kept_no_gap : (journal : OpenJournal) (disk : Disk) (t : JournalLog) → Keeps journal disk t → HasNoGap journal.path disk
 kept_no_gap journal disk t keeps = no_gap_of journal.path disk (kept_no_stray journal disk t keeps)
 
--- what holds of a number below, where nothing of it and of those that read changed
-below_still : (path : List ℕ) (old new : Disk) (m : ℕ) → new (journal_name path m) ≡ old (journal_name path m) → ((b : IsBelowSome path old m) → new (journal_name path b.number) ≡ old (journal_name path b.number))
-    → IsSome (old (journal_name path m)) ⊎ IsBelowSome path old m → IsSome (new (journal_name path m)) ⊎ IsBelowSome path new m
-below_still path old new m own highest (inl begun) = inl (subst IsSome (sym own) begun)
-below_still path old new m own highest (inr b) = inr (record {
-  number = b.number;
-  above = b.above;
-  last = b.last;
-  there = subst (λ (o : Option File). IsSome (read_of o)) (sym (highest b)) b.there;
-})
+-- what holds of a disk that is the same
 
 pub same_below : (path : List ℕ) (old new : Disk) (number : ℕ) → SameDisk new old → HasAllBelow path old number → HasAllBelow path new number
-same_below path old new number same all m low under = below_still path old new m (same (journal_name path m)) (λ b. same (journal_name path b.number)) (all m low under)
+same_below path old new number same all k low under free unread =
+    all k low under (sym (same (journal_name path k)) ∙ free) (λ n from below. ap read_of (sym (same (journal_name path n))) ∙ unread n from below)
 
 pub same_gap : (path : List ℕ) (old new : Disk) → SameDisk new old → HasNoGap path old → HasNoGap path new
-same_gap path old new same gap n from below some = same_below path old new n same (gap n from below (subst IsSome (same (journal_name path n)) some))
+same_gap path old new same gap number low free unread n from below =
+    same (journal_name path n) ∙ gap number low (sym (same (journal_name path number)) ∙ free) (λ m over within. ap read_of (sym (same (journal_name path m))) ∙ unread m over within) n from below
 
 -- a generation is begun that is the next one
 pub begun_no_gap : (path : List ℕ) (number : ℕ) (old new : Disk) → number < 2 ^ 32 → HasNoneFrom path old number → HasAllBelow path old number
     → ((name : List ℕ) → (name ≡ journal_name path number → ⊥) → new name ≡ old name) → HasNoGap path new
-begun_no_gap path number old new last none all elsewhere n from below some m low under =
-    let still : (k : ℕ) → k < 2 ^ 32 → (k ≡ number → ⊥) → new (journal_name path k) ≡ old (journal_name path k) =
-    λ k within differ. elsewhere (journal_name path k) (λ e. differ (same_number path k number within last e)) in
-    let up_to : n ≤ number = at_most (new (journal_name path n)) number n (λ over. still n below (λ e. omega (arith, e, over)) ∙ none n (omega (arith, over)) below) some in
-    let lower : m < number = omega (arith, under, up_to) in
-    below_still path old new m (still m (omega (arith, lower, last)) (λ e. omega (arith, e, lower)))
-    (λ b. still b.number b.last (λ e. not_some (reads old (journal_name path b.number)) (ap read_of (none b.number (omega (arith, e)) b.last)) b.there)) (all m low lower)
+begun_no_gap path number old new last none all elsewhere k low free unread n from below =
+    let still : (m : ℕ) → m < 2 ^ 32 → (number ≡ m → ⊥) → new (journal_name path m) ≡ old (journal_name path m) =
+    λ m within differ. elsewhere (journal_name path m) (λ e. differ (sym (same_number path m number within last e))) in
+    let unread_then : (m : ℕ) → k ≤ m → m < 2 ^ 32 → reads old (journal_name path m) ≡ None =
+    λ m over within. ⊎_elim (λ same. ap read_of (none m (omega (arith, same)) within)) (λ differ. ap read_of (sym (still m within differ)) ∙ unread m over within) (cases_eq number m) in
+    elim (cases_lt k number) [
+      | inl lt ↦ absurd (all k low lt (sym (still k (omega (arith, lt, last)) (λ e. omega (arith, e, lt))) ∙ free) unread_then)
+      | inr le ↦ elim (cases_lt number n) [
+        | inl over ↦ still n below (λ e. omega (arith, e, over)) ∙ none n (omega (arith, over)) below
+        | inr under ↦ subst (λ (m : ℕ). new (journal_name path m) ≡ None) (omega (arith, le, from, under)) free
+      ]
+    ]

@@ -7,9 +7,9 @@ use Rattle.chunk_journal.specs.Laws.{AnswersOneWay}
 use Rattle.journal_files.specs.declared.error.JournalError.{JournalError}
 use Rattle.journal_files.specs.declared.error.JournalError.TheVariants as refusal
 use Rattle.journal_files.specs.Faults.{dir_error}
-use Rattle.journal_files.specs.Folders.{journal_name, IsDamagedFolder}
+use Rattle.journal_files.specs.Folders.{journal_name, IsDamagedFolder, IsNext}
 use Rattle.journal_files.specs.Disks.{HasNoGap}
-use Rattle.journal_files.specs.Leftovers.{ReadsAs, LeavesNext}
+use Rattle.journal_files.specs.Leftovers.{ReadsAs, LeavesAtMost}
 use Rattle.journal_files.specs.Openings.{IsRefused}
 use Rattle.journal_files.proofs.OneWay.{undamaged}
 use Rattle.journal_files.proofs.Reasons.{dir_undamaged, dir_numbered}
@@ -26,12 +26,16 @@ begun_memory refusal.Damaged whole numbered not = absurd (whole refl)
 begun_memory refusal.LastGeneration whole numbered not = absurd (numbered refl)
 
 module _ (path : List ℕ) (faults new_faults : ℕ) (old new : Disk) where
+  -- what is left of the next generation
+  abbrev IsLeft : Type 0
+  IsLeft = ReadsAs old new ⊎ ((number : ℕ) × IsNext path old number × LeavesAtMost path number faults new_faults old new)
+
   -- the folder was searched
   pub search_refused : (law : AnswersOneWay) → StopLeaves old (reads old) → (e : JournalError) → (e ≡ refusal.Damaged → IsDamagedFolder path (reads old))
       → (e ≡ refusal.LastGeneration → IsSome (reads old (journal_name path (2 ^ 32 - 1)))) → (IsSome (reads old (journal_name path (2 ^ 32 - 1))) → e ≢ refusal.Damaged)
-      → SameDisk new old → (HasNoGap path old → ReadsAs old new ⊎ LeavesNext path faults new_faults old new) → IsRefused path faults new_faults old new e
+      → SameDisk new old → (HasNoGap path old → IsLeft) → IsRefused path faults new_faults old new e
   search_refused law stays e damaged last unread same left = record {
-    damaged = damaged;
+    damaged = λ is state opens. undamaged law path (reads old) state opens (damaged is);
     undamaged = λ t before is. undamaged law path (reads old) _ (before (reads old) stays).opens (damaged is);
     last = last;
     unread = unread;
@@ -40,7 +44,7 @@ module _ (path : List ℕ) (faults new_faults : ℕ) (old new : Disk) where
   }
 
   -- the folder refused a call
-  pub call_refused : (e : DirError) → (dir_error e ≢ refusal.Fault → SameDisk new old) → (HasNoGap path old → ReadsAs old new ⊎ LeavesNext path faults new_faults old new)
+  pub call_refused : (e : DirError) → (dir_error e ≢ refusal.Fault → SameDisk new old) → (HasNoGap path old → IsLeft)
       → IsRefused path faults new_faults old new (dir_error e)
   call_refused e unchanged left = record {
     damaged = λ is. absurd (dir_undamaged e is);
@@ -53,7 +57,7 @@ module _ (path : List ℕ) (faults new_faults : ℕ) (old new : Disk) where
 
   -- the next generation isn't begun
   pub begin_refused : (e : JournalError) → e ≢ refusal.Damaged → e ≢ refusal.LastGeneration → (e ≡ refusal.Memory → SameDisk new old)
-      → (HasNoGap path old → ReadsAs old new ⊎ LeavesNext path faults new_faults old new) → IsRefused path faults new_faults old new e
+      → (HasNoGap path old → IsLeft) → IsRefused path faults new_faults old new e
   begin_refused e whole numbered memory left = record {
     damaged = λ is. absurd (whole is);
     undamaged = λ t before. whole;

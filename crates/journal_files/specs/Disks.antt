@@ -1,10 +1,10 @@
 -- A journal on a disk.
-use Rattle.std.specs.Prelude.{ℕ, ◌≡◌, ◌⊎◌, ◌<◌, ◌≤◌, ◌^◌, true, false, List, length, None, Some, IsSome}
+use Rattle.std.specs.Prelude.{ℕ, ◌≡◌, ◌<◌, ◌≤◌, ◌^◌, true, false, List, length, take, None, Some, IsSome}
 use Rattle.disk_files.specs.Disk.{Disk, Folder, StopLeaves, reads}
 use Rattle.chunk_journal.specs.Journal.{journal_bytes}
 use Rattle.chunk_journal.specs.Places.{ArePlaced}
-use Rattle.journal_files.specs.Folders.{journal_name}
-use Rattle.journal_files.specs.JournalLogs.{JournalLog, records_of, durable_records, state_of, IsJournalLog, OpensWithin}
+use Rattle.journal_files.specs.Folders.{journal_name, OpensWithin}
+use Rattle.journal_files.specs.JournalLogs.{JournalLog, records_of, state_of, IsJournalLog}
 use Rattle.journal_files.specs.Views.{OpenJournal}
 
 -- The disk has the journal, whole: the file of its generation has the records that it told and
@@ -24,7 +24,7 @@ pub record Keeps (journal : OpenJournal) (disk : Disk) (t : JournalLog) : Type 0
         is_durable = true;
         is_removed = false;
       })
-  pub holds : length (journal_bytes (durable_records t)) ≤ synced
+  pub holds : length (journal_bytes (records_of (record t { steps = take t.durable t.steps }))) ≤ synced
   pub fits : synced ≤ length (journal_bytes (records_of t))
   pub counted : journal.len ≡ length (journal_bytes (records_of t))
   pub newest : (n : ℕ) → journal.number < n → n < 2 ^ 32 → disk (journal_name journal.path n) ≡ None
@@ -52,13 +52,16 @@ abbrev pub HasNoStray : List ℕ → Disk → Type 0
 HasNoStray path disk = (n : ℕ) → 1 ≤ n → n < 2 ^ 32 → IsSome (disk (journal_name path n))
     → IsBelowSome path disk n
 
--- each generation below this one was begun at some time, or is at or below one that reads
+-- of each generation below this one that was never begun, one at or above it reads. (A word of
+-- private functions.)
 abbrev pub HasAllBelow : List ℕ → Disk → ℕ → Type 0
-HasAllBelow path disk number = (n : ℕ) → 1 ≤ n → n < number → IsSome (disk (journal_name path n))
-    ⊎ IsBelowSome path disk n
+HasAllBelow path disk number = (k : ℕ) → 1 ≤ k → k < number → disk (journal_name path k) ≡ None
+    → ((n : ℕ) → k ≤ n → n < 2 ^ 32 → reads disk (journal_name path n) ≡ None) → ⊥
 
--- Above all that read, the generations that were begun and removed follow one another without a
--- gap. (So the first number that is free is above all that were ever begun.)
+-- Above a number that was never begun, and from which on nothing reads, none was ever begun. (So
+-- the generations that were begun and removed above all that read leave no gap, and the first
+-- number that is free is above all that were ever begun.)
 abbrev pub HasNoGap : List ℕ → Disk → Type 0
-HasNoGap path disk = (n : ℕ) → 1 ≤ n → n < 2 ^ 32 → IsSome (disk (journal_name path n))
-    → HasAllBelow path disk n
+HasNoGap path disk = (number : ℕ) → 1 ≤ number → disk (journal_name path number) ≡ None
+    → ((n : ℕ) → number ≤ n → n < 2 ^ 32 → reads disk (journal_name path n) ≡ None)
+    → (n : ℕ) → number ≤ n → n < 2 ^ 32 → disk (journal_name path n) ≡ None

@@ -16,10 +16,6 @@ pub record HasReason {T E : Type 0} (before after : ℕ) (result : Result T E)
   pub failed : IsErrOf result fault → Rises before after
   pub others : (IsErrOf result fault → ⊥) → after ≡ before
 
--- the device has failed twice at least, as far as its count goes
-abbrev pub FailsAgain : ℕ → ℕ → Type 0
-FailsAgain before after = (before + 2 ≤ after) ⊎ (2 ^ 64 - 1 ≤ after)
-
 -- what a folder's refusal is answered as: any but for want of memory is the device's
 abbrev pub dir_error : DirError → JournalError
 dir_error dir.Memory = refusal.Memory

@@ -1,12 +1,10 @@
 -- What a journal has told, and what a stop may make of it.
 use Rattle.std.specs.Prelude.{ℕ, ◌≡◌, ◌≤◌, List, [], ◌∷◌, ◌++◌, length, take}
 use Rattle.std.specs.List.{AllByRecursion, flat_map}
-use Rattle.disk_files.specs.Disk.{Folder}
 use Rattle.buffer_state.specs.State.{State, empty}
 use Rattle.buffer_state.specs.Steps.{settled}
 use Rattle.chunk_journal.specs.Records.{Record, Seal, IsRecord}
 use Rattle.chunk_journal.specs.Meaning.{Tells, Allows, Each, after, after_all, chunk_records}
-use Rattle.journal_files.specs.Folders.{Opens}
 
 -- What a generation has told so far.
 pub record JournalLog : Type 0 where
@@ -19,22 +17,14 @@ pub record JournalLog : Type 0 where
 abbrev pub records_of : JournalLog → List Record
 records_of t = t.told ++ Seal t.next ∷ t.steps
 
--- those that each stop leaves
-abbrev pub durable_records : JournalLog → List Record
-durable_records t = t.told ++ Seal t.next ∷ take t.durable t.steps
-
--- the state at its Seal
-abbrev pub state_at_seal : JournalLog → State
-state_at_seal t = after (after_all empty t.told) (Seal t.next)
-
 -- the state after all of its steps
 abbrev pub state_of : JournalLog → State
-state_of t = after_all (state_at_seal t) t.steps
+state_of t = after_all (after (after_all empty t.told) (Seal t.next)) t.steps
 
 -- the state that opening gives where so many of its steps were left: the queue goes by rising
 -- serial
 abbrev pub reopened_at : JournalLog → ℕ → State
-reopened_at t k = settled (after_all (state_at_seal t) (take k t.steps))
+reopened_at t k = settled (state_of (record t { steps = take k t.steps }))
 
 -- the state is the one after some of the steps, all durable ones among them, as opening gives it
 pub record IsOfSome (t : JournalLog) (state : State) : Type 0 where
@@ -47,7 +37,7 @@ pub record IsOfSome (t : JournalLog) (state : State) : Type 0 where
 pub record IsJournalLog (t : JournalLog) : Type 0 where
   pub tells : Each Tells empty t.told
   pub greater : (after_all empty t.told).next ≤ t.next
-  pub allowed : Each Allows (state_at_seal t) t.steps
+  pub allowed : Each Allows (after (after_all empty t.told) (Seal t.next)) t.steps
   pub records : AllByRecursion IsRecord (records_of t)
   pub few : t.durable ≤ length t.steps
 
@@ -68,10 +58,6 @@ new_generation state = record {
   durable = 0;
 }
 
--- The folder opens to the state after some of the steps, and those that each stop leaves are among
--- them.
-pub record OpensWithin (path : List ℕ) (t : JournalLog) (folder : Folder) : Type 0 where
-  pub steps : ℕ
-  pub enough : t.durable ≤ steps
-  pub begun : steps ≤ length t.steps
-  pub opens : Opens path folder (reopened_at t steps)
+-- the state at a log's Seal. (A word of proofs.)
+abbrev pub state_at_seal : JournalLog → State
+state_at_seal t = after (after_all empty t.told) (Seal t.next)

@@ -1,12 +1,12 @@
 -- What a call leaves to be read that didn't come to a new generation.
-use Rattle.std.specs.Prelude.{ℕ, ◌≡◌, ◌⊎◌, List, []}
-use Rattle.disk_files.specs.Disk.{Disk, reads}
+use Rattle.std.specs.Prelude.{ℕ, ◌≡◌, ◌⊎◌, ◌+◌, ◌-◌, ◌^◌, ◌≤◌, false, List, [], None, Some}
+use Rattle.std.specs.Str.{bytes_eq}
+use Rattle.std.specs.Map.{update}
+use Rattle.disk_files.specs.Disk.{Disk, SameDisk, reads}
 use Rattle.buffer_state.specs.State.{State}
 use Rattle.journal_files.specs.Disks.{Keeps}
-use Rattle.journal_files.specs.Faults.{FailsAgain}
-use Rattle.journal_files.specs.Folders.{journal_name, IsNext}
+use Rattle.journal_files.specs.Folders.{journal_name}
 use Rattle.journal_files.specs.JournalLogs.{new_generation}
-use Rattle.journal_files.specs.Pieces.{HasNew}
 use Rattle.journal_files.specs.Views.{OpenJournal}
 
 -- the folder reads as before: the same files, with the same bytes
@@ -18,13 +18,10 @@ ReadsAs before after = (name : List ℕ) → reads after name ≡ reads before n
 -- removed.
 pub record StaysBegun (first last : ℕ) (name : List ℕ) (before after : Disk) : Type 0 where
   pub bytes : List ℕ
-  pub new : HasNew name bytes before after
-  pub why : (bytes ≡ []) ⊎ FailsAgain first last
-
--- nothing is left of the file that was begun, or it stays
-abbrev pub IsGivenUp : ℕ → ℕ → List ℕ → Disk → Disk → Type 0
-IsGivenUp first last name before after = ReadsAs before after
-    ⊎ StaysBegun first last name before after
+  pub none : before name ≡ None
+  pub made : SameDisk after (update bytes_eq before name
+      (Some (record { written = bytes; synced = 0; is_durable = false; is_removed = false })))
+  pub why : (bytes ≡ []) ⊎ ((first + 2 ≤ last) ⊎ (2 ^ 64 - 1 ≤ last))
 
 -- the generation of this number is whole, and synced
 pub record IsWholeAt (path : List ℕ) (number : ℕ) (disk : Disk) : Type 0 where
@@ -34,14 +31,14 @@ pub record IsWholeAt (path : List ℕ) (number : ℕ) (disk : Disk) : Type 0 whe
   pub number_is : journal.number ≡ number
   pub keeps : Keeps journal disk (new_generation chunks)
 
--- the file of the generation of this number was given up; or it is whole, and older ones may be
--- gone
+-- nothing is left of the file of the generation of this number; or it stays as it was begun; or it
+-- is whole, and older ones may be gone
 abbrev pub LeavesAtMost : List ℕ → ℕ → ℕ → ℕ → Disk → Disk → Type 0
-LeavesAtMost path number first last before after =
-    IsGivenUp first last (journal_name path number) before after ⊎ IsWholeAt path number after
+LeavesAtMost path number first last before after = ReadsAs before after
+    ⊎ (StaysBegun first last (journal_name path number) before after ⊎ IsWholeAt path number after)
 
--- so it is with the next generation
-pub record LeavesNext (path : List ℕ) (first last : ℕ) (before after : Disk) : Type 0 where
-  pub number : ℕ
-  pub next : IsNext path before number
-  pub left : LeavesAtMost path number first last before after
+-- nothing is left of the file of this name, or it stays as it was begun. (A word of private
+-- functions.)
+abbrev pub IsGivenUp : ℕ → ℕ → List ℕ → Disk → Disk → Type 0
+IsGivenUp first last name before after = ReadsAs before after
+    ⊎ StaysBegun first last name before after

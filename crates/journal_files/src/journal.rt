@@ -10,9 +10,9 @@ ghost use Rattle.chunk_journal.specs.Records.{Record as Step, body_of, longest_b
 ghost use Rattle.chunk_journal.specs.Meaning.{Allows};
 ghost use Rattle.chunk_journal.specs.Places.{SamePlaces, entries_at};
 ghost use Rattle.chunk_journal.specs.Spelled.{record_of, HasShortTag};
-ghost use Rattle.journal_files.specs.JournalLogs.{JournalLog, begun, all_durable, new_generation, state_of, OpensWithin};
+ghost use Rattle.journal_files.specs.JournalLogs.{JournalLog, begun, all_durable, new_generation, state_of};
 ghost use Rattle.journal_files.specs.Views.{IsOpenIn, IsReady, HasShortTags};
-ghost use Rattle.journal_files.specs.Folders.{journal_name};
+ghost use Rattle.journal_files.specs.Folders.{journal_name, OpensWithin};
 ghost use Rattle.journal_files.specs.Disks.{Keeps, Recovers, HasNoStray, HasNoGap};
 ghost use Rattle.journal_files.specs.Calls.{WritesOwn, BeginsStep, Renews, IsNextOf, RefusesRenewal, LeavesOthers};
 ghost use Rattle.journal_files.specs.Faults.{HasReason};

@@ -4,14 +4,11 @@ pub returns-clause-holds : goal.returns-clause-holds
 returns-clause-holds c journal chunks disk t holds = c.recovers_all.ensures journal disk t holds.keeps
 
 pub returns-clause-recovers : goal.returns-clause-recovers
-returns-clause-recovers c path disk t folder recovers left =
-    let within = recovers folder left in (
-      within,
-      λ state opens. record {
-        steps = within.steps;
-        enough = within.enough;
-        begun = within.begun;
-        state_is = c.opens_one_way.ensures.one path folder state _ opens within.opens;
-      },
-      c.opens_one_way.ensures.undamaged path folder _ within.opens,
-    )
+returns-clause-recovers c path disk t folder recovers left state opens =
+    let within = recovers folder left in
+    record {
+      steps = within.steps;
+      enough = within.enough;
+      begun = within.begun;
+      state_is = c.opens_one_way.ensures.one path folder state _ opens within.opens;
+    }

@@ -6,8 +6,7 @@ use Rattle.chunk_journal.specs.Journal.{journal_bytes}
 use Rattle.chunk_journal.specs.Meaning.{chunk_records}
 use Rattle.disk_files.specs.Faults.{Rises}
 use Rattle.disk_files.specs.declared.dir.DirError.TheVariants as dir
-use Rattle.journal_files.specs.Folders.{journal_name}
-use Rattle.journal_files.specs.JournalLogs.{OpensWithin}
+use Rattle.journal_files.specs.Folders.{journal_name, OpensWithin}
 use Rattle.journal_files.specs.Leftovers.{IsGivenUp}
 use Rattle.journal_files.specs.declared.error.JournalError.TheVariants as refusal
 use Rattle.journal_files.proofs.Beginning.{can_open, making, sealing, ends, new_more, others_whole}
@@ -60,13 +59,13 @@ returns-in_err-file-clause-cause g c =
     (answered c.in_err-file.field-0.0 c.from_residual-in_err-file.result c.from_residual-in_err-file.ensures.1)
 
 pub returns-in_err-told-clause-gap : goal.returns-in_err-told-clause-gap
-returns-in_err-told-clause-gap g c = λ honest none all. begun_no_gap c.args.path.now c.args.number _ _ c.ranges.number.fits none all (λ other differ. refl)
+returns-in_err-told-clause-gap g c = λ honest none all. begun_no_gap c.args.path.now c.args.number (now (g.D.Dir.history c.args.dir.now)) (now (g.D.Dir.history c.args.dir.now)) c.ranges.number.fits none all (λ other differ. refl)
 
 pub returns-in_err-told-clause-left : goal.returns-in_err-told-clause-left
 returns-in_err-told-clause-left g c = λ honest source. any_err _ (inl (λ q. refl))
 
 pub returns-in_err-prepared-clause-gap : goal.returns-in_err-prepared-clause-gap
-returns-in_err-prepared-clause-gap g c = λ honest none all. begun_no_gap c.args.path.now c.args.number _ _ c.ranges.number.fits none all (λ other differ. refl)
+returns-in_err-prepared-clause-gap g c = λ honest none all. begun_no_gap c.args.path.now c.args.number (now (g.D.Dir.history c.args.dir.now)) (now (g.D.Dir.history c.args.dir.now)) c.ranges.number.fits none all (λ other differ. refl)
 
 pub returns-in_err-prepared-clause-left : goal.returns-in_err-prepared-clause-left
 returns-in_err-prepared-clause-left g c = λ honest source. any_err _ (inl (λ q. refl))

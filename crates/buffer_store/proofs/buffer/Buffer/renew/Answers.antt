@@ -33,7 +33,7 @@ returns-then-has_failed-clause-next g c = record {
   number = tt;
   gone = λ honest. tt;
   journal = refl;
-  left = λ began. inl (inl (λ q. refl));
+  left = λ began. inl (λ q. refl);
   elsewhere = λ honest name other next. refl;
 }
 

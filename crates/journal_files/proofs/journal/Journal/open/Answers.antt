@@ -192,11 +192,11 @@ returns-in_err-remove-clause-refused g c = λ honest.
     let e = c.in_err-remove.field-0.0 in
     if_err _ (dir_error e) c.from_residual-in_err-remove.result (answered (dir_error e) c.from_residual-in_err-remove.result c.from_residual-in_err-remove.ensures.1)
     (call_refused path _ _ _ _ e (λ not. absurd (not (fault_only e c.in_err-remove.ensures.only)))
-    (λ stray. inr (record {
-      number = greatest + 1;
-      next = is_next path (now first) greatest (greatest + 1) refl (found.greatest honest);
-      left = inr (whole_still path (greatest + 1) c.in_ok-journal.journal (now begun) c.in_ok-found.found.chunks journal.path journal.number (keeps stray) end below);
-    })))
+    (λ stray. inr (
+      greatest + 1,
+      is_next path (now first) greatest (greatest + 1) refl (found.greatest honest),
+      inr (inr (whole_still path (greatest + 1) c.in_ok-journal.journal (now begun) c.in_ok-found.found.chunks journal.path journal.number (keeps stray) end below)),
+    )))
 
 pub returns-in_err-remove-clause-cause : goal.returns-in_err-remove-clause-cause
 returns-in_err-remove-clause-cause g c =

@@ -12,6 +12,7 @@ use Rattle.journal_files.proofs.Beginning.{of_all, kept_above}
 use Rattle.journal_files.proofs.Begun.{next_no_stray}
 use Rattle.journal_files.specs.Leftovers.{IsGivenUp}
 use Rattle.journal_files.proofs.Afresh.{said_of}
+use Rattle.journal_files.proofs.GivenUp.{at_most}
 use Rattle.journal_files.proofs.Reasons.{answered, reason_err, reason_dir, dir_undamaged, dir_numbered, fault_only, fault_remembered}
 use Rattle.journal_files.proofs.Wanting.{err_no_ok, err_was, err_same, same_err, ok_no_err, last_remembered, last_undamaged, last_no_fault}
 use Rattle.journal_files.proofs.Onward.{onward, own_differs, still, none, all, source, beginning}
@@ -28,7 +29,7 @@ returns-then-self-clause-renews g c = λ honest t keeps means. record {
   ok = tt;
   whole = λ is. last_undamaged (same_err refusal.LastGeneration refusal.Damaged is);
   fault = λ is. absurd (last_no_fault (same_err refusal.LastGeneration refusal.Fault is));
-  left = inl (inl (λ q. refl));
+  left = inl (λ q. refl);
   moments = started (g.D.Dir.history c.args.dir.now) _ (recovers c.args.self.now (now (g.D.Dir.history c.args.dir.now)) t keeps);
 }
 
@@ -50,7 +51,8 @@ returns-in_err-next-clause-renews g c = λ honest t keeps means.
     renews_not old c.args.self.now c.args.chunks.now _ _ first begun t e c.from_residual.result (answered e c.from_residual.result c.from_residual.ensures.1)
     (λ short. c.in_err-next.ensures.whole honest (source on keeps c.args.chunks.now means) (ap Err short))
     (λ fault folder leaves. so_far.each begun.moment so_far.later (omega arith) folder leaves)
-    (inl (said_of (λ (p : List ℕ) (k : ℕ). IsGivenUp (g.D.Dir.fault_count c.args.dir.now) (g.D.Dir.fault_count c.begin.new.dir) (journal_name p k) (now first) (now begun)) on.path_is on.number_is
+    (at_most old.path (old.number + 1) _ _ (now first) (now begun)
+    (said_of (λ (p : List ℕ) (k : ℕ). IsGivenUp (g.D.Dir.fault_count c.args.dir.now) (g.D.Dir.fault_count c.begin.new.dir) (journal_name p k) (now first) (now begun)) on.path_is on.number_is
     (c.in_err-next.ensures.left honest (source on keeps c.args.chunks.now means)))) so_far
 
 pub returns-in_err-next-clause-gap : goal.returns-in_err-next-clause-gap
@@ -102,13 +104,13 @@ returns-in_err-remove-clause-renews g c = λ honest t keeps means.
     let held = λ (disk : Disk). still_recovers old c.in_ok-next.next (now begun) disk path_is number_is keeps.last t c.args.chunks.now c.in_ok-next.ensures.state (of_all t c.args.chunks.now keeps.logged means) anew in
     renews_not old c.args.self.now c.args.chunks.now _ _ first end t (dir_error e) r (answered (dir_error e) r c.from_residual-in_err-remove.ensures.1)
     (dir_undamaged e) (λ fault. held (now end) left)
-    (inr (record {
+    (inr (inr (record {
       journal = c.in_ok-next.next;
       chunks = c.args.chunks.now;
       path_is = path_is;
       number_is = number_is;
       keeps = still_keeps old c.in_ok-next.next (now begun) (now end) path_is number_is keeps.last c.args.chunks.now anew left;
-    }))
+    })))
     (removing path t (journal_name path old.number) first begun end c.remove.result (beginning on keeps c.args.chunks.now means first begun (c.begin.ensures.moments honest t)) (c.remove.ensures.device.time after)
     held (c.remove.ensures.ok after _ opened) (c.remove.ensures.err after _ opened))
 
