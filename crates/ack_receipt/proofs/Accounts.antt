@@ -1,6 +1,6 @@
 -- The book accounts for the chunks, step by step.
 use Rattle.std.proofs.Common.{◌≡◌, ◌⊎◌, inl, inr, ℕ, ◌+◌, ◌<◌, ◌≤◌, Bool, true, false, cond, List, [], ◌∷◌, ◌++◌, length, Option, Some, None, option_map, IsSome, refl, sym, ap, subst, ◌∙◌, arith, add-zero, zero-add}
-use Rattle.std.specs.Prelude.{map, filter, sum_by, IfSome, IsSomeAnd, Contains, slice_index_or, Result, Ok, Err, OnOk, OnErr}
+use Rattle.std.specs.Prelude.{map, filter, sum_by, IfSome, IsSomeAnd, Contains, slice_index_or, Result, Ok, Err, OnOk, OnErr, drop, slice_get}
 use Rattle.std.specs.Option.{option_map_or}
 use Rattle.std.specs.List.Sorted.{IsStrictlySortedBy}
 use Rattle.std.specs.Map.{lookup, keys_of}
@@ -14,7 +14,7 @@ use Rattle.std.proofs.lemmas.Option.{same_Some}
 use Rattle.buffer_state.specs.declared.chunk.Stage.{Stage}
 use Rattle.buffer_state.specs.declared.chunk.Stage.TheVariants.{Staged, Queued, Claimed}
 use Rattle.buffer_state.specs.State.{State, Chunk, IsAt, Numbered, chunk_at}
-use Rattle.buffer_state.specs.Steps.{with_chunk, added, appended, restaged, queued_last, claimed, claimed_from, removed}
+use Rattle.buffer_state.specs.Steps.{with_chunk, added, appended, restaged, queued_last, claimed, removed}
 use Rattle.buffer_state.specs.Slots.{AreBelow}
 use Rattle.buffer_state.proofs.Serials.{at_same, at_itself, other_way}
 use Rattle.buffer_state.proofs.Slots.{set_at, removed_at, last_at, there as is_there}
@@ -184,7 +184,7 @@ queued_is_not_claimed c s = by (chunk_at c s) refl
 pub accounted_claimed : (c : State) (first : List (ℕ × ℕ)) (lines : List Line) (noted : List ℕ) → IsAccounted c first lines noted → IsAccounted (claimed c) first lines noted
 accounted_claimed c first lines noted account = by c.queue
   where
-    by : (queue : List ℕ) → IsAccounted (claimed_from queue c) first lines noted
+    by : (queue : List ℕ) → IsAccounted (option_map_or (λ serial. restaged serial Claimed (record c { queue = drop 1 queue })) (slice_get queue 0) c) first lines noted
     by [] = account
     by (s ∷ rest) =
         let other : IsAccounted (record c { queue = rest }) first lines noted = record { there = account.there; counted = account.counted; given = account.given } in

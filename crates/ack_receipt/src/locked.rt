@@ -2,13 +2,13 @@
 //! whole what it works on: a delivery, pending appends, a claim with its evidence, a stub. Receipts
 //! and pending appends are made in this module's parts alone, and nobody outside is lent the book.
 
-ghost use Rattle.std.specs.Prelude.{◌≡◌, ◌↔◌, ◌⊎◌, ◌+◌, [], ℕ, true, false, cond, length, Some, None, Ok, Err, IfOk, IfErr, IfSome, IsSome, IsSomeAnd, IsTrue, OnOk, OnErr, option_map};
+ghost use Rattle.std.specs.Prelude.{◌≡◌, ◌↔◌, ◌⊎◌, ◌+◌, [], ℕ, true, false, cond, length, Some, None, Ok, Err, IfOk, IfErr, IfSome, IsSome, IsSomeAnd, IsTrue, OnOk, OnErr, option_map, slice_get};
 ghost use Rattle.std.specs.Ordering.{nat_cmp};
 ghost use Rattle.std.specs.BTreeMap.{is_at};
 ghost use Rattle.book_audit.specs.Audits.{AreInBook, Closes, IsAgain, Settles, lines_of};
 ghost use Rattle.book_audit.specs.declared.fault.BookFault.{BookFault};
 ghost use Rattle.buffer_state.specs.State.{IsAt, chunk_at};
-ghost use Rattle.buffer_state.specs.Steps.{claimed, first_of, queued_last};
+ghost use Rattle.buffer_state.specs.Steps.{claimed, queued_last};
 ghost use Rattle.buffer_state.specs.declared.chunk.Stage.TheVariants.{Claimed, Staged};
 ghost use Rattle.buffer_store.specs.Durability.{BeganWell};
 ghost use Rattle.buffer_store.specs.Room.{IsNearlyFull};
@@ -177,7 +177,7 @@ impl<D: Dir, A: Allocator + Copy> LockedBuffer<D, A> {
     /// changes nothing.
     pub(crate) fn claim(&mut self, terms: &Terms<A>) -> Result<Option<Claim<A>>, AllocError>
         ensures first { IfOk result
-            (λ claim. option_map (λ c. c.serial) claim ≡ first_of self.old.buffer.chunks.queue) }
+            (λ claim. option_map (λ c. c.serial) claim ≡ slice_get self.old.buffer.chunks.queue 0) }
         ensures leaf { IfOk result (λ claim. IfSome claim (λ c. c.leaf ≡ terms.now.leaf)) }
         ensures copied { IfOk result
             (λ claim. IfSome claim (λ c. IsCopied c self.old.buffer.chunks)) }

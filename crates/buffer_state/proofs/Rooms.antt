@@ -1,6 +1,6 @@
 -- Room that was made for a step on a staged chunk, and the newest chunk taken back.
 use Rattle.std.proofs.Common.{◌≡◌, ℕ, ◌<◌, ◌+◌, Bool, true, false, cond, List, [], ◌∷◌, ◌++◌, Option, Some, None, refl, sym, ap, subst, ◌∙◌, arith}
-use Rattle.std.specs.Prelude.{filter, IsSomeAnd, nat_lt}
+use Rattle.std.specs.Prelude.{filter, IsSomeAnd, nat_lt, slice_get}
 use Rattle.std.specs.Ordering.{nat_cmp}
 use Rattle.std.specs.declared.cmp.Ordering.TheVariants.{Less, Equal, Greater}
 use Rattle.std.specs.Cmp.{nat_cmp_is}
@@ -16,7 +16,7 @@ use Rattle.buffer_state.specs.declared.chunk.Stage.{Stage}
 use Rattle.buffer_state.specs.declared.chunk.Stage.TheVariants.{Staged, Queued}
 use Rattle.buffer_state.specs.State.{State, Chunk, chunk_at, is_queued}
 use Rattle.std.proofs.lemmas.Option.{same_Some}
-use Rattle.buffer_state.specs.Steps.{first_of, with_chunk, added, appended, taken_back}
+use Rattle.buffer_state.specs.Steps.{with_chunk, added, appended, taken_back}
 use Rattle.buffer_state.specs.Slots.{Slot, Slots, slot_at, chunks_in, AreBelow}
 use Rattle.buffer_state.specs.Views.{passes_at, is_waiting, state_of, IsFree, IsSound, IsReady}
 use Rattle.buffer_state.proofs.Serials.{at_same, at_itself, if_some, filter_same, kept, removed_last}
@@ -169,10 +169,10 @@ as_before slots xs s before tag entries rising first is = by (chunk_at before s)
         )
 
 -- the first that passes a test passes it
-pub first_passes : (p : ℕ → Bool) (xs : List ℕ) (s : ℕ) → first_of (filter p xs) ≡ Some s → p s ≡ true
+pub first_passes : (p : ℕ → Bool) (xs : List ℕ) (s : ℕ) → slice_get (filter p xs) 0 ≡ Some s → p s ≡ true
 first_passes p [] s e = absurd (cc e)
 first_passes p (x ∷ xs) s e = by (p x) refl e (first_passes p xs s)
   where
-    by : (b : Bool) → p x ≡ b → first_of (cond b (x ∷ filter p xs) (filter p xs)) ≡ Some s → (first_of (filter p xs) ≡ Some s → p s ≡ true) → p s ≡ true
+    by : (b : Bool) → p x ≡ b → slice_get (cond b (x ∷ filter p xs) (filter p xs)) 0 ≡ Some s → (slice_get (filter p xs) 0 ≡ Some s → p s ≡ true) → p s ≡ true
     by true is first rest = ap p (sym (same_Some x s first)) ∙ is
     by false is first rest = rest first

@@ -27,10 +27,11 @@ use Rattle.buffer_state.proofs.Named.{same_tag}
 use Rattle.std.proofs.lemmas.Bool.{true≢false, eq-eqb, eqb-true}
 use Rattle.buffer_state.specs.declared.chunk.Stage.{Stage}
 use Rattle.buffer_state.specs.declared.chunk.Stage.TheVariants.{Staged, Queued, Claimed}
-use Rattle.buffer_state.specs.State.{State, Chunk, chunk_at, size, size_at, is_queued, is_staged, staged_of, newest_staged, queued_rising, IsAt, IsStagedOf}
-use Rattle.buffer_state.specs.Steps.{appended, restaged, queued_last, claimed, removed, settled, without, place_within, greatest_size, last_serial, CanAppend}
+use Rattle.buffer_state.specs.State.{State, Chunk, chunk_at, size, size_at, is_queued, is_staged, newest_staged, queued_rising, IsAt, IsStagedOf}
+use Rattle.buffer_state.specs.Steps.{appended, restaged, queued_last, claimed, removed, settled, greatest_size, last_serial, CanAppend}
 use Rattle.buffer_state.specs.Slots.{Slot, Slots, slot_at, slot_size, changed_at, chunks_in, put, grown, fresh, staged_in, AreBelow}
-use Rattle.buffer_state.specs.Views.{passes_at, is_waiting, is_claimed, claims, state_of, IsFree, IsEndOf, IsSound}
+use Rattle.buffer_state.specs.Tags.{without}
+use Rattle.buffer_state.specs.Views.{passes_at, place_within, is_waiting, is_claimed, claims, state_of, IsFree, IsEndOf, IsSound}
 use Rattle.buffer_state.proofs.Serials.{at_same, at_itself, at_above, apart, if_some, some_and, lookup_above, filter_same, kept, kept_is}
 use Rattle.buffer_state.proofs.Slots.{lookup_chunks, set_chunks, removed_chunks, set_at, passes_itself, passes_set, passes_same, passes_removed, passes_last, if_set, if_removed, last_at, Without, all_map, all_last, all_both, without_free, without_rest, distinct_rest, distinct_last, filter_without}
 
@@ -367,7 +368,7 @@ unfolding kept
 kept_chunks g [] = refl
 kept_chunks g (e ∷ es) = ap (λ r. cond (g e.1.chunk) (e.0 ∷ r) r) (kept_chunks g es)
 
-pub staged_chunks : (slots : Slots) (tag : List ℕ) (xs : List ℕ) (next : ℕ) → staged_in slots tag ≡ staged_of (state_of slots xs next) tag
+pub staged_chunks : (slots : Slots) (tag : List ℕ) (xs : List ℕ) (next : ℕ) → staged_in slots tag ≡ keys_of (filter (λ (e : ℕ × Chunk). is_staged e.1.stage && bytes_eq tag e.1.tag) (state_of slots xs next).chunks)
 staged_chunks slots tag xs next = kept_is (λ (slot : Slot). is_staged slot.chunk.stage && bytes_eq tag slot.chunk.tag) slots
     ∙ sym (kept_chunks (λ (chunk : Chunk). is_staged chunk.stage && bytes_eq tag chunk.tag) slots) ∙ sym (kept_is (λ (chunk : Chunk). is_staged chunk.stage && bytes_eq tag chunk.tag) (chunks_in slots))
 

@@ -16,11 +16,11 @@ use Rattle.std.proofs.lemmas.Map.Views.{IfSome-lookup_from_All}
 use Rattle.std.proofs.lemmas.List.Folds.{concat-append}
 use Rattle.std.proofs.lemmas.Map.Views.{All-values-set_value, All-map-remove_entry}
 use Rattle.buffer_state.specs.declared.tags.TagIndex.{TagIndex}
-use Rattle.buffer_state.specs.Tags.{serials_at}
+use Rattle.buffer_state.specs.Tags.{serials_at, without}
 use Rattle.buffer_state.specs.declared.chunk.Stage.{Stage}
 use Rattle.buffer_state.specs.State.{is_staged, size}
 use Rattle.buffer_state.specs.Slots.{Slot, Slots, grown, put, slot_at, slot_size, slots_size, staged_in, AreBelow}
-use Rattle.buffer_state.specs.Steps.{greatest_size, without}
+use Rattle.buffer_state.specs.Steps.{greatest_size}
 use Rattle.buffer_state.specs.Tables.{IsTable}
 use Rattle.buffer_state.proofs.Serials.{if_some, kept, kept_append, kept_is, kept_set, kept_goes, kept_other, kept_leaves}
 

@@ -69,15 +69,11 @@ abbrev pub IsStagedOf : State → ℕ → List ℕ → Type 0
 IsStagedOf state serial tag = IsSomeAnd (chunk_at state serial)
     (λ chunk. (chunk.stage ≡ Staged) × (chunk.tag ≡ tag))
 
--- the serials of the staged chunks of this tag, rising
-abbrev pub staged_of : State → List ℕ → List ℕ
-staged_of state tag =
-    keys_of (filter (λ numbered. is_staged numbered.1.stage
-    && bytes_eq tag numbered.1.tag) state.chunks)
-
 -- the newest staged chunk of this tag
 abbrev pub newest_staged : State → List ℕ → Option ℕ
-newest_staged state tag = last_or None (staged_of state tag)
+newest_staged state tag =
+    last_or None (keys_of (filter (λ numbered. is_staged numbered.1.stage
+    && bytes_eq tag numbered.1.tag) state.chunks))
 
 -- the serials of the queued chunks, rising
 abbrev pub queued_rising : State → List ℕ

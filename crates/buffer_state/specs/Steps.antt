@@ -1,5 +1,5 @@
 -- The steps of a buffer: the condition of each, and the state that it leads to.
-use Rattle.std.specs.Prelude.{ℕ, ◌+◌, ◌-◌, ◌^◌, ◌<◌, ◌≤◌, ◌⊎◌, ◌==◌, ◌&&◌, not, min, cond, nat_le, nat_lt, List, [], ◌∷◌, ◌++◌, filter, map, Option, None, Some, Result, Ok, Err}
+use Rattle.std.specs.Prelude.{ℕ, ◌+◌, ◌-◌, ◌^◌, ◌<◌, ◌≤◌, ◌⊎◌, ◌==◌, ◌&&◌, not, min, cond, nat_le, nat_lt, List, [], ◌∷◌, ◌++◌, filter, map, drop, slice_get, Option, Result, Ok, Err}
 use Rattle.std.specs.Option.{option_map_or}
 use Rattle.std.specs.Map.{set_value, remove_entry}
 use Rattle.std.specs.Ordering.{nat_cmp}
@@ -58,16 +58,13 @@ taken_back serial state = record {
   queue = state.queue;
 }
 
--- The place of an append of so many bytes: the newest staged chunk of the tag where they fit into
--- it within this limit, else a new one.
-abbrev pub place_within : ℕ → State → List ℕ → ℕ → ℕ
-place_within limit state tag bytes =
-    option_map_or (λ serial. cond (nat_le (size_at state serial + bytes) limit) serial state.next)
-    (newest_staged state tag) state.next
-
--- the place of an append of these entries
+-- The place of an append of these entries: the newest staged chunk of the tag where they fit into
+-- it within a chunk's limit, else a new one.
 abbrev pub place_of : Limits → State → List ℕ → List (List ℕ) → ℕ
-place_of limits state tag entries = place_within (limit_of limits) state tag (size entries)
+place_of limits state tag entries =
+    option_map_or (λ serial.
+    cond (nat_le (size_at state serial + size entries) (limit_of limits)) serial state.next)
+    (newest_staged state tag) state.next
 
 -- The place of an append, or why there is none: the entries alone are beyond a chunk's limit, or
 -- with all that is there beyond the buffer's, or no serial is left.
@@ -91,35 +88,24 @@ abbrev pub queued_last : ℕ → State → State
 queued_last serial state = record (restaged serial Queued state)
     { queue = state.queue ++ serial ∷ [] }
 
--- the serials without this one
-abbrev pub without : ℕ → List ℕ → List ℕ
-without serial serials = filter (λ other. not (other == serial)) serials
-
--- the first of these serials is claimed, where there is one, and the others are the queue
-abbrev pub claimed_from : List ℕ → State → State
-claimed_from [] state = state
-claimed_from (serial ∷ rest) state = restaged serial Claimed (record state { queue = rest })
-
--- the first of the queue is claimed, where there is one
+-- the first of the queue is claimed, where there is one, and the others are the queue
 abbrev pub claimed : State → State
-claimed state = claimed_from state.queue state
+claimed state =
+    option_map_or (λ serial.
+    restaged serial Claimed (record state { queue = drop 1 state.queue }))
+    (slice_get state.queue 0) state
 
 -- the chunk of this serial is gone
 abbrev pub removed : ℕ → State → State
 removed serial state = record {
   chunks = remove_entry (is_at (nat_cmp serial)) state.chunks;
   next = state.next;
-  queue = without serial state.queue;
+  queue = filter (λ other. not (other == serial)) state.queue;
 }
-
--- the first, where there is one
-abbrev pub first_of : List ℕ → Option ℕ
-first_of [] = None
-first_of (serial ∷ rest) = Some serial
 
 -- the queued chunk of least serial
 abbrev pub oldest : State → Option ℕ
-oldest state = first_of (queued_rising state)
+oldest state = slice_get (queued_rising state) 0
 
 -- claimed chunks are queued again
 abbrev pub unclaimed : Stage → Stage

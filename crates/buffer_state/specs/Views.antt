@@ -1,5 +1,5 @@
 -- What a buffer's chunks in memory stand for, and what holds of them.
-use Rattle.std.specs.Prelude.{ℕ, ◌≡◌, ◌+◌, ◌<◌, ◌≤◌, Bool, true, false, not, cond, List, ◌++◌, filter, sum_by, IfSome, IsSomeAnd, nat_eq}
+use Rattle.std.specs.Prelude.{ℕ, ◌≡◌, ◌+◌, ◌<◌, ◌≤◌, Bool, true, false, not, cond, nat_le, List, ◌++◌, filter, sum_by, IfSome, IsSomeAnd, nat_eq}
 use Rattle.std.specs.Option.{option_map_or}
 use Rattle.std.specs.List.{AllByRecursion, IsDistinct}
 use Rattle.std.specs.Map.{keys_of, values_of}
@@ -11,7 +11,7 @@ use Rattle.std.specs.declared.collections.VecDeque.{VecDeque}
 use Rattle.std.specs.VecDeque.{deque_len, deque_capacity}
 use Rattle.buffer_state.specs.declared.chunk.Stage.{Stage}
 use Rattle.buffer_state.specs.declared.chunk.Stage.TheVariants.{Staged, Queued, Claimed}
-use Rattle.buffer_state.specs.State.{State, is_staged, is_queued}
+use Rattle.buffer_state.specs.State.{State, is_staged, is_queued, size_at, newest_staged}
 use Rattle.buffer_state.specs.Slots.{Slots, slot_at, chunks_in, AreBelow}
 
 -- whether the chunk is being delivered
@@ -32,6 +32,13 @@ passes_at test slots serial = option_map_or (λ slot. test slot.chunk.stage)
 -- how many chunks are claimed
 abbrev pub claims : Slots → ℕ
 claims slots = sum_by (λ slot. cond (is_claimed slot.chunk.stage) 1 0) (values_of slots)
+
+-- The place of an append of so many bytes: the newest staged chunk of the tag where they fit into
+-- it within this limit, else a new one.
+abbrev pub place_within : ℕ → State → List ℕ → ℕ → ℕ
+place_within limit state tag bytes =
+    option_map_or (λ serial. cond (nat_le (size_at state serial + bytes) limit) serial state.next)
+    (newest_staged state tag) state.next
 
 -- what these fields stand for
 abbrev pub state_of : Slots → List ℕ → ℕ → State

@@ -1,6 +1,6 @@
 //! The chunks of a buffer, and its steps on them.
 
-ghost use Rattle.std.specs.Prelude.{◌≡◌, ◌≤◌, ◌<◌, ◌^◌, ◌+◌, ◌⊎◌, [], ◌∷◌, ◌++◌, true, length, filter, IfSome, IfNone, IfOk, IfErr, OnOk, OnErr, cond, ℕ, List, None, option_map};
+ghost use Rattle.std.specs.Prelude.{◌≡◌, ◌≤◌, ◌<◌, ◌^◌, ◌+◌, ◌⊎◌, [], ◌∷◌, ◌++◌, true, length, filter, slice_get, IfSome, IfNone, IfOk, IfErr, OnOk, OnErr, cond, ℕ, List, None, option_map};
 ghost use Rattle.std.specs.List.{All};
 ghost use Rattle.std.specs.List.Sorted.{IsStrictlySortedBy};
 ghost use Rattle.std.specs.Map.{keys_of, values_of};
@@ -9,9 +9,9 @@ ghost use Rattle.std.specs.BTreeMap.{is_at};
 ghost use Rattle.std.specs.BTreeSet.{contains};
 ghost use Rattle.std.specs.VecDeque.{deque_len, deque_capacity};
 ghost use Rattle.buffer_state.specs.State.{State, empty, chunk_at, size, size_at, total_size, is_queued, IsAt, IsStagedOf};
-ghost use Rattle.buffer_state.specs.Steps.{CanAppend, planned, appended, queued_last, claimed, removed, settled, taken_back, oldest, first_of, greatest_size, place_within};
+ghost use Rattle.buffer_state.specs.Steps.{CanAppend, planned, appended, queued_last, claimed, removed, settled, taken_back, oldest, greatest_size};
 ghost use Rattle.buffer_state.specs.Slots.{chunks_in, slot_size, AreBelow};
-ghost use Rattle.buffer_state.specs.Views.{passes_at, IsEndOf};
+ghost use Rattle.buffer_state.specs.Views.{passes_at, place_within, IsEndOf};
 ghost use Rattle.buffer_state.specs.declared.chunk.Stage.TheVariants.{Staged, Queued, Claimed};
 
 use crate::chunk::{Chunk, Stage};
@@ -240,7 +240,7 @@ impl<A: Allocator + Copy> Chunks<A> {
 
     /// The first of the queue.
     pub fn first(&self) -> Option<u64>
-        ensures first { result ≡ first_of self.now.queue }
+        ensures first { result ≡ slice_get self.now.queue 0 }
         ensures queued { IfSome result (IsAt Queued self.now) }
     {
         next_queued(&self.table, &self.queue)
@@ -248,7 +248,7 @@ impl<A: Allocator + Copy> Chunks<A> {
 
     /// Claims the first of the queue, and gives its serial.
     pub fn claim(&mut self) -> Option<u64>
-        ensures first { result ≡ first_of self.old.queue }
+        ensures first { result ≡ slice_get self.old.queue 0 }
         ensures queued { IfSome result (IsAt Queued self.old) }
         ensures state { self.new ≡ claimed self.old }
     {
@@ -465,7 +465,7 @@ fn pop_queued<A: Allocator + Copy>(table: &Table<A>, queue: &mut VecDeque<u64, A
 
 // The first queued serial, behind those of chunks that are gone.
 fn next_queued<A: Allocator + Copy>(table: &Table<A>, queue: &VecDeque<u64, A>) -> Option<u64>
-    ensures { result ≡ first_of (filter (passes_at is_queued table.now) queue.now.items) }
+    ensures { result ≡ slice_get (filter (passes_at is_queued table.now) queue.now.items) 0 }
 {
     for serial in queue {
         if is_queued(table, *serial) {
@@ -490,7 +490,7 @@ fn trim<A: Allocator + Copy>(table: &Table<A>, queue: &mut VecDeque<u64, A>)
 
 // The first of the waiting serials that is queued.
 fn first_queued<A: Allocator + Copy>(table: &Table<A>, waiting: &BTreeSet<u64, A>) -> Option<u64>
-    ensures { result ≡ first_of (filter (passes_at is_queued table.now) waiting.now.keys) }
+    ensures { result ≡ slice_get (filter (passes_at is_queued table.now) waiting.now.keys) 0 }
 {
     for serial in waiting {
         if is_queued(table, *serial) {

@@ -1,8 +1,7 @@
 //! What is shown of live chunks: all but their entries.
 
-ghost use Rattle.std.specs.Prelude.{◌≡◌, ◌<◌, ◌^◌, IfSome, map, option_map};
+ghost use Rattle.std.specs.Prelude.{◌≡◌, ◌<◌, ◌^◌, IfSome, map, slice_get, option_map};
 ghost use Rattle.buffer_state.specs.State.{chunk_at, total_size, IsAt};
-ghost use Rattle.buffer_state.specs.Steps.{first_of};
 ghost use Rattle.buffer_state.specs.Shown.{facts_of, numbered_facts, seen};
 ghost use Rattle.buffer_state.specs.declared.chunk.Stage.TheVariants.{Queued};
 
@@ -80,7 +79,7 @@ impl<'a, A: Allocator + Copy> LiveChunks<'a, A> {
 
     /// The first of the queue.
     pub fn first(&self) -> Option<u64>
-        ensures first { result ≡ first_of self.now.queue }
+        ensures first { result ≡ slice_get self.now.queue 0 }
         ensures queued { IfSome result (IsAt Queued self.now) }
     {
         self.chunks.first()

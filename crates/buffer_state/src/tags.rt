@@ -3,7 +3,7 @@
 ghost use Rattle.std.specs.Prelude.{◌≡◌, ◌++◌, [], ◌∷◌, ℕ, List, OnOk, OnErr, None, cond, bytes_eq};
 ghost use Rattle.std.specs.List.{last_or};
 ghost use Rattle.buffer_state.specs.Slots.{AreBelow};
-ghost use Rattle.buffer_state.specs.Steps.{without};
+ghost use Rattle.buffer_state.specs.Tags.{without};
 
 use std::alloc::{AllocError, Allocator};
 use std::collections::{BTreeMap, BTreeSet};

@@ -1,6 +1,6 @@
 -- Chunks with claims forgotten: what each step does to them.
 use Rattle.std.proofs.Common.{◌≡◌, ◌⊎◌, inl, inr, ℕ, ◌≤◌, Bool, true, false, cond, List, [], ◌∷◌, ◌++◌, Option, Some, None, option_map, refl, sym, ap, subst, ◌∙◌, arith}
-use Rattle.std.specs.Prelude.{IsSomeAnd, IfSome, filter}
+use Rattle.std.specs.Prelude.{IsSomeAnd, IfSome, filter, drop, slice_get}
 use Rattle.std.specs.Option.{option_map_or}
 use Rattle.std.specs.Ordering.{nat_cmp}
 use Rattle.std.specs.BTreeMap.{is_at}
@@ -10,7 +10,7 @@ use Rattle.std.proofs.lemmas.Option.{same_Some}
 use Rattle.buffer_state.specs.declared.chunk.Stage.{Stage}
 use Rattle.buffer_state.specs.declared.chunk.Stage.TheVariants.{Staged, Queued, Claimed}
 use Rattle.buffer_state.specs.State.{State, Chunk, Numbered, chunk_at, is_queued, size, size_at, IsAt}
-use Rattle.buffer_state.specs.Steps.{CanAppend, with_chunk, added, appended, restaged, queued_last, claimed, claimed_from, removed, settled, reopened, unclaimed, unclaimed_chunks, first_of}
+use Rattle.buffer_state.specs.Steps.{CanAppend, with_chunk, added, appended, restaged, queued_last, claimed, removed, settled, reopened, unclaimed, unclaimed_chunks}
 use Rattle.buffer_state.proofs.Serials.{at_itself}
 use Rattle.chunk_journal.specs.Records.{Append, Queue, Purge}
 use Rattle.chunk_journal.specs.Meaning.{Allows}
@@ -172,24 +172,24 @@ restaged_at c s rest here = by (chunk_at c s) refl here
     by None at h = absurd h
     by (Some chunk) at h = subst (λ o. IsSomeAnd o (λ chunk. chunk.stage ≡ Claimed)) (sym (set_found (is_at (nat_cmp s)) c.chunks chunk (record chunk { stage = Claimed }) at)) refl
 
-claims_first : (c : State) (s : ℕ) → first_of c.queue ≡ Some s → IsAt Queued c s → IsAt Claimed (claimed c) s
+claims_first : (c : State) (s : ℕ) → slice_get c.queue 0 ≡ Some s → IsAt Queued c s → IsAt Claimed (claimed c) s
 claims_first c s first here = by c.queue refl first
   where
-    by : (queue : List ℕ) → c.queue ≡ queue → first_of queue ≡ Some s → IsAt Claimed (claimed_from queue c) s
+    by : (queue : List ℕ) → c.queue ≡ queue → slice_get queue 0 ≡ Some s → IsAt Claimed (option_map_or (λ serial. restaged serial Claimed (record c { queue = drop 1 queue })) (slice_get queue 0) c) s
     by [] e f = absurd (cc f)
     by (x ∷ rest) e f = rw (same_Some x s f) (restaged_at c s rest here)
 
-pub claim_takes : (c : State) (result : Option ℕ) → result ≡ first_of c.queue → IfSome result (IsAt Queued c) → IfSome result (IsAt Claimed (claimed c))
+pub claim_takes : (c : State) (result : Option ℕ) → result ≡ slice_get c.queue 0 → IfSome result (IsAt Queued c) → IfSome result (IsAt Claimed (claimed c))
 claim_takes c None first queued = tt
 claim_takes c (Some s) first queued = claims_first c s (sym first) queued
 
 -- a chunk that is claimed counts as queued
-pub claim_counts : (c : State) (result : Option ℕ) → result ≡ first_of c.queue → ((s : ℕ) → result ≡ Some s → IsAt Queued c s) → reopened (claimed c) ≡ reopened c
+pub claim_counts : (c : State) (result : Option ℕ) → result ≡ slice_get c.queue 0 → ((s : ℕ) → result ≡ Some s → IsAt Queued c s) → reopened (claimed c) ≡ reopened c
 claim_counts c result first queued = by c.queue refl
   where
     by : (queue : List ℕ) → c.queue ≡ queue → reopened (claimed c) ≡ reopened c
     by [] e = rw e refl
-    by (s ∷ rest) e = rw e (restage_same (record c { queue = rest }) s Claimed Queued refl (queued s (first ∙ ap first_of e)) rest)
+    by (s ∷ rest) e = rw e (restage_same (record c { queue = rest }) s Claimed Queued refl (queued s (first ∙ ap (λ (queue : List ℕ). slice_get queue 0) e)) rest)
 
 -- a chunk that is given back counted as queued
 pub back_counts : (c : State) (s : ℕ) → IsAt Claimed c s → reopened (queued_last s c) ≡ reopened c

@@ -1,5 +1,6 @@
 -- No tag grows in any step.
 use Rattle.std.proofs.Common.{◌≡◌, ℕ, ◌≤◌, Bool, true, false, cond, List, [], ◌∷◌, ◌++◌, length, Option, Some, None, refl, subst}
+use Rattle.std.specs.Prelude.{drop, slice_get}
 use Rattle.std.specs.Ordering.{nat_cmp}
 use Rattle.std.specs.BTreeMap.{is_at}
 use Rattle.std.specs.Map.{lookup, set_value, remove_entry}
@@ -9,7 +10,7 @@ use Rattle.event_modes.specs.Message.{longest_tag}
 use Rattle.buffer_state.specs.declared.chunk.Stage.{Stage}
 use Rattle.buffer_state.specs.declared.chunk.Stage.TheVariants.{Staged, Queued, Claimed}
 use Rattle.buffer_state.specs.State.{State, Chunk, Numbered, chunk_at}
-use Rattle.buffer_state.specs.Steps.{with_chunk, added, appended, restaged, queued_last, claimed, claimed_from, removed}
+use Rattle.buffer_state.specs.Steps.{with_chunk, added, appended, restaged, queued_last, claimed, removed}
 use Rattle.journal_files.specs.Views.{HasShortTags}
 use Rattle.journal_files.proofs.Tags.{Short}
 
@@ -61,7 +62,7 @@ tags_queued c s h = tags_restaged c s Queued h
 pub tags_claimed : (c : State) → HasShortTags c → HasShortTags (claimed c)
 tags_claimed c h = by c.queue
   where
-    by : (queue : List ℕ) → HasShortTags (claimed_from queue c)
+    by : (queue : List ℕ) → HasShortTags (option_map_or (λ serial. restaged serial Claimed (record c { queue = drop 1 queue })) (slice_get queue 0) c)
     by [] = h
     by (s ∷ rest) = tags_restaged (record c { queue = rest }) s Claimed h
 

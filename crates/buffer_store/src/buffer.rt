@@ -1,13 +1,13 @@
 //! A buffer: what it holds, and the calls that write nothing.
 
-ghost use Rattle.std.specs.Prelude.{◌≡◌, ◌≢◌, ◌↔◌, ◌⊎◌, ◌≤◌, ℕ, true, false, length, Some, None, Ok, Err, IsSomeAnd, IfSome, IfOk, OnOk, OnErr};
+ghost use Rattle.std.specs.Prelude.{◌≡◌, ◌≢◌, ◌↔◌, ◌⊎◌, ◌≤◌, ℕ, true, false, length, Some, None, Ok, Err, IsSomeAnd, IfSome, IfOk, OnOk, OnErr, slice_get};
 ghost use Rattle.std.specs.List.{concat};
 ghost use Rattle.std.specs.List.Sorted.{IsStrictlySortedBy};
 ghost use Rattle.std.specs.Map.{keys_of};
 ghost use Rattle.std.specs.Ordering.{nat_cmp};
 ghost use Rattle.buffer_state.specs.Slots.{AreBelow};
 ghost use Rattle.buffer_state.specs.State.{IsAt, chunk_at};
-ghost use Rattle.buffer_state.specs.Steps.{CanAppend, planned, queued_last, claimed, first_of, reopened};
+ghost use Rattle.buffer_state.specs.Steps.{CanAppend, planned, queued_last, claimed, reopened};
 ghost use Rattle.buffer_state.specs.declared.chunk.Stage.TheVariants.{Queued, Claimed};
 ghost use Rattle.buffer_state.specs.declared.limits.AppendFault.{AppendFault};
 ghost use Rattle.buffer_store.specs.Calls.{OnlyReads};
@@ -166,7 +166,7 @@ impl<D: Dir, A: Allocator + Copy> Buffer<D, A> {
     /// Claims the first of the queue, and gives its serial. It writes nothing, and goes on after a
     /// fault.
     pub fn claim(&mut self) -> Option<u64>
-        ensures first { result ≡ first_of self.old.chunks.queue }
+        ensures first { result ≡ slice_get self.old.chunks.queue 0 }
         ensures queued { IfSome result (IsAt Queued self.old.chunks) }
         ensures taken { IfSome result (IsAt Claimed self.new.chunks) }
         ensures state { self.new ≡ record self.old { chunks = claimed self.old.chunks } }

@@ -1,8 +1,8 @@
 //! How chunks leave a buffer.
 
-ghost use Rattle.std.specs.Prelude.{◌≡◌, ◌≢◌, ◌↔◌, ◌⊎◌, ◌≤◌, ◌++◌, ◌∷◌, [], ℕ, true, false, length, Some, None, Ok, Err, IfOk, IfErr, IfSome, IsSome, IsSomeAnd, OnOk, OnErr, IsTrue, option_map};
+ghost use Rattle.std.specs.Prelude.{◌≡◌, ◌≢◌, ◌↔◌, ◌⊎◌, ◌≤◌, ◌++◌, ◌∷◌, [], ℕ, true, false, length, Some, None, Ok, Err, IfOk, IfErr, IfSome, IsSome, IsSomeAnd, OnOk, OnErr, IsTrue, option_map, slice_get};
 ghost use Rattle.buffer_state.specs.State.{IsAt, chunk_at};
-ghost use Rattle.buffer_state.specs.Steps.{claimed, first_of, queued_last};
+ghost use Rattle.buffer_state.specs.Steps.{claimed, queued_last};
 ghost use Rattle.buffer_state.specs.declared.chunk.Stage.TheVariants.{Claimed};
 ghost use Rattle.buffer_store.specs.Durability.{BeganWell};
 ghost use Rattle.buffer_store.specs.declared.fault.BufferFault.{BufferFault};
@@ -33,7 +33,7 @@ impl<D: Dir, A: Allocator + Copy> Booked<D, A> {
     /// The error is want of memory, and changes nothing: the order of the queue stays too.
     pub fn claim(&mut self, leaf: Leaf) -> Result<Option<Claim<A>>, AllocError>
         ensures first { IfOk result
-            (λ claim. option_map (λ c. c.serial) claim ≡ first_of self.old.buffer.chunks.queue) }
+            (λ claim. option_map (λ c. c.serial) claim ≡ slice_get self.old.buffer.chunks.queue 0) }
         ensures leaf { IfOk result (λ claim. IfSome claim (λ c. c.leaf ≡ leaf)) }
         ensures copied { IfOk result
             (λ claim. IfSome claim (λ c. IsCopied c self.old.buffer.chunks)) }

@@ -1,8 +1,7 @@
 use Rattle.std.proofs.Common.{◌≡◌, ℕ, Option, Some, None, sym, subst}
-use Rattle.std.specs.Prelude.{IfSome, filter}
+use Rattle.std.specs.Prelude.{IfSome, filter, slice_get}
 use Rattle.buffer_state.specs.State.{State, Chunk, IsAt, is_queued}
 use Rattle.buffer_state.specs.declared.chunk.Stage.TheVariants.{Queued}
-use Rattle.buffer_state.specs.Steps.{first_of}
 use Rattle.buffer_state.specs.Views.{passes_at}
 use Rattle.buffer_state.proofs.Steps.{passed, and_some, chunk_there}
 use Rattle.buffer_state.proofs.Rooms.{first_passes}
@@ -11,7 +10,7 @@ use Rattle.buffer_state.proofs.chunks.Chunks.first.Goals as goal
 pub returns-clause-queued : goal.returns-clause-queued
 returns-clause-queued g c = by c.next_queued.result c.next_queued.ensures
   where
-    by : (o : Option ℕ) → o ≡ first_of (filter (passes_at is_queued c.self.inside.table) c.self.inside.queue.items) → IfSome o (IsAt Queued c.args.self.now)
+    by : (o : Option ℕ) → o ≡ slice_get (filter (passes_at is_queued c.self.inside.table) c.self.inside.queue.items) 0 → IfSome o (IsAt Queued c.args.self.now)
     by None is = tt
     by (Some s) is = (
         let v = passed c.self.inside.table s (first_passes (passes_at is_queued c.self.inside.table) c.self.inside.queue.items s (sym is)) in

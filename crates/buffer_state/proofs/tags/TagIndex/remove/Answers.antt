@@ -1,6 +1,6 @@
 use Rattle.std.proofs.Common.{◌≡◌, [], refl, sym, ◌∙◌}
 use Rattle.std.proofs.lemmas.List.{nil_from_length}
-use Rattle.buffer_state.specs.Steps.{without}
+use Rattle.buffer_state.specs.Tags.{without}
 use Rattle.buffer_state.proofs.Serials.{key_gone}
 use Rattle.buffer_state.proofs.Named.{set_serials, set_empty, gone_serials, serials}
 use Rattle.buffer_state.proofs.tags.TagIndex.remove.Goals as goal
