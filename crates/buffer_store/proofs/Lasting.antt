@@ -21,7 +21,8 @@ use Rattle.journal_files.specs.Disks.{Recovers}
 use Rattle.journal_files.specs.Folders.{OpensWithin}
 use Rattle.journal_files.specs.JournalLogs.{JournalLog, IsJournalLog, state_of, state_at_seal, reopened_at, all_durable, new_generation}
 use Rattle.buffer_store.specs.Buffers.{Held, with_more, durable_if}
-use Rattle.buffer_store.specs.Durability.{MayBeLost, LosesOnly, KeepsQueued, Lasts, LastsNow, IsDurable, IsLeft, IsNamed, Endures, durably}
+use Rattle.buffer_store.specs.Durability.{MayBeLost, LosesOnly, Lasts, LastsNow, IsDurable, IsLeft, IsNamed, Endures, durably}
+use Rattle.buffer_store.specs.Laws.{QueuedLasts}
 use Rattle.std.proofs.lemmas.Bool.{false≢true}
 use Rattle.std.proofs.lemmas.List.{length-append, take-append-le, take_all}
 use Rattle.chunk_journal.proofs.Standing.{each_more}
@@ -296,22 +297,24 @@ rising_steps s [] (suc k) each rising = rising
 rising_steps s (x ∷ xs) zero each rising = rising
 rising_steps s (x ∷ xs) (suc k) each rising = rising_steps (after s x) xs k each.1 (rising_after s x each.0 rising)
 
--- a folder that opens so keeps what is queued durably
-pub keeps_queued : (path : List ℕ) (t : JournalLog) (folder : Folder) → IsJournalLog t → OpensWithin path t folder → KeepsQueued path t folder
-keeps_queued path t folder is w =
-    let f : (n : ℕ) → Follows n (after_all (state_at_seal t) (take t.durable t.steps)) (after_all (state_at_seal t) (take w.steps t.steps)) = λ n. follows_steps n (state_at_seal t) t.steps t.durable w.steps w.enough is.allowed (rising_seal t is) in
-    let rising = rising_steps (state_at_seal t) t.steps t.durable is.allowed (rising_seal t is) in
-    record {
-      state = reopened_at t w.steps;
-      opens = w.opens;
-      next = (f 0).next;
-      queued = λ serial chunk at stage. (
+-- behind so many steps what is queued durably is kept
+keeps_queued_at : (t : JournalLog) (k : ℕ) → IsJournalLog t → t.durable ≤ k
+    → ((durably t).next ≤ (reopened_at t k).next) × ((serial : ℕ) (chunk : Chunk) → chunk_at (durably t) serial ≡ Some chunk → chunk.stage ≡ Queued → IsNamed serial chunk (reopened_at t k))
+keeps_queued_at t k is enough =
+    let f : (n : ℕ) → Follows n (after_all (state_at_seal t) (take t.durable t.steps)) (after_all (state_at_seal t) (take k t.steps)) = λ n. follows_steps n (state_at_seal t) t.steps t.durable k enough is.allowed (rising_seal t is) in
+    let rising = rising_steps (state_at_seal t) t.steps t.durable is.allowed (rising_seal t is) in (
+      (f 0).next,
+      λ serial chunk at stage. (
         let lt = found_below serial 0 (after_all (state_at_seal t) (take t.durable t.steps)).chunks (after_all (state_at_seal t) (take t.durable t.steps)).next chunk rising at in
             let a = (f serial).next in
             omega (arith, lt, a),
-        (f serial).queued chunk at stage,
-      );
-    }
+        ⊎_elim (λ same. inl (same ∙ ap (λ (s : Stage). Some (record chunk { stage = s })) stage)) (λ none. inr none) ((f serial).queued chunk at stage),
+      ),
+    )
+
+-- a state after some of the steps keeps what is queued durably
+pub keeps_queued : QueuedLasts
+keeps_queued t state is some = rw some.state_is (keeps_queued_at t some.steps is some.enough)
 
 -- ---- back to what is durable
 
@@ -387,9 +390,8 @@ lasts_of path disk staged t told c serial chunk is told_is durable same_durable 
     let at : chunk_at (state_of t) serial ≡ Some queued =
     chunk_same (state_of t) c same serial ∙ ap (option_map free) there ∙ ap (λ (s : Stage). Some (record chunk { stage = s })) counts in
     let durably_at : chunk_at (durably told) serial ≡ Some queued = ap (λ (s : State). chunk_at s serial) same_durable ∙ queued_durably staged serial t queued is lost at refl in
-    let k = keeps_queued path told folder told_is (recovers folder left) in
-    let q = k.queued serial queued durably_at refl in
-    record { state = k.state; opens = k.opens; above = q.0; same = q.1 }
+    let w = recovers folder left in
+    record { state = reopened_at told w.steps; opens = w.opens; named = (keeps_queued_at told w.steps told_is w.enough).1 serial queued durably_at refl }
 
 durably_more : (item : Record) (t : JournalLog) → IsJournalLog t → durably (begun item t) ≡ durably t
 durably_more item t is = ap (λ (z : List Record). settled (after_all (state_at_seal t) z)) (take-append-le t.durable t.steps (item ∷ []) is.few)
@@ -431,8 +433,7 @@ named_on t serial chunk k allowed rising le named =
 
 lasts_at : (path : List ℕ) (t : JournalLog) (serial : ℕ) (chunk : Chunk) → Each Allows (state_at_seal t) t.steps → Rising (state_at_seal t) → IsNamed serial chunk (durably t) → (folder : Folder) → OpensWithin path t folder → Lasts path serial chunk folder
 lasts_at path t serial chunk allowed rising named folder w =
-    let n = named_on t serial chunk w.steps allowed rising w.enough named in
-    record { state = reopened_at t w.steps; opens = w.opens; above = n.0; same = n.1 }
+    record { state = reopened_at t w.steps; opens = w.opens; named = named_on t serial chunk w.steps allowed rising w.enough named }
 
 pub lasts_within : (path : List ℕ) (t : JournalLog) (serial : ℕ) (chunk : Chunk) → IsJournalLog t → IsNamed serial chunk (durably t) → (folder : Folder) → OpensWithin path t folder → Lasts path serial chunk folder
 lasts_within path t serial chunk is named = lasts_at path t serial chunk is.allowed (rising_seal t is) named

@@ -1,6 +1,6 @@
 -- What the type of a buffer keeps of the disk, whatever calls are made: over a folder that was
 -- honest when the buffer was opened.
-use Rattle.std.specs.Prelude.{ℕ, ◌≡◌, ◌⊎◌, ◌<◌, ◌≤◌, Bool, true, false, List, drop, Option, Some, None, IfSome}
+use Rattle.std.specs.Prelude.{ℕ, ◌≡◌, ◌⊎◌, ◌<◌, Bool, true, false, List, drop, Option, Some, None, IfSome}
 use Rattle.std.specs.List.{AllByRecursion}
 use Rattle.disk_files.specs.Disk.{Folder, StopLeaves}
 use Rattle.disk_files.specs.Moments.{History, LeavesOnly, now}
@@ -70,21 +70,18 @@ pub record IsSound {D : Type 0} (is_honest : D → Type 0) (history : D → Hist
 abbrev pub durably : JournalLog → State
 durably t = reopened_at t t.durable
 
--- The folder opens to a state whose next serial is above this one, and in which its chunk is queued
--- with this content, or gone.
-pub record Lasts (path : List ℕ) (serial : ℕ) (chunk : Chunk) (folder : Folder) : Type 0 where
-  pub state : State
-  pub opens : Opens path folder state
-  pub above : serial < state.next
-  pub same : (chunk_at state serial ≡ Some (record chunk { stage = Queued }))
-      ⊎ (chunk_at state serial ≡ None)
-
 -- In this state the chunk of this serial is queued with this content, or gone, and the serial is
 -- given to no other.
 abbrev pub IsNamed : ℕ → Chunk → State → Type 0
 IsNamed serial chunk state = (serial < state.next)
     × ((chunk_at state serial ≡ Some (record chunk { stage = Queued }))
     ⊎ (chunk_at state serial ≡ None))
+
+-- the folder opens to a state in which it is so
+pub record Lasts (path : List ℕ) (serial : ℕ) (chunk : Chunk) (folder : Folder) : Type 0 where
+  pub state : State
+  pub opens : Opens path folder state
+  pub named : IsNamed serial chunk state
 
 -- A chunk of this serial and content was claimed: the journal tells so much, durably, that whatever
 -- a stop leaves opens to a state in which it is queued as it was, or gone.
@@ -104,17 +101,6 @@ pub record KeepsClaims {D : Type 0} (history : D → History) (old new : Held D)
       → LeavesOnly (history old.dir) (history new.dir) (Lasts old.journal.path serial chunk)
   pub after : (serial : ℕ) (chunk : Chunk) → Endures history old serial chunk
       → Endures history new serial chunk
-
--- Each folder that a stop may leave opens so: what was queued durably is the same or gone, and the
--- next serial hasn't fallen.
-pub record KeepsQueued (path : List ℕ) (t : JournalLog) (folder : Folder) : Type 0 where
-  pub state : State
-  pub opens : Opens path folder state
-  pub next : (durably t).next ≤ state.next
-  pub queued : (serial : ℕ) (chunk : Chunk) → chunk_at (durably t) serial ≡ Some chunk
-      → chunk.stage ≡ Queued
-      → (serial < state.next)
-      × ((chunk_at state serial ≡ Some chunk) ⊎ (chunk_at state serial ≡ None))
 
 -- whatever a stop leaves opens to a state above this serial, with its chunk queued as it is, or
 -- gone

@@ -1,13 +1,14 @@
 -- What holds of buffers and stops, apart from any call.
-use Rattle.std.specs.Prelude.{ℕ, List}
+use Rattle.std.specs.Prelude.{ℕ, ◌≡◌, ◌≤◌, List, Some}
 use Rattle.disk_files.specs.Disk.{Disk, Folder, StopLeaves}
-use Rattle.buffer_state.specs.State.{State}
-use Rattle.journal_files.specs.Folders.{Opens, OpensWithin}
+use Rattle.buffer_state.specs.State.{Chunk, State, chunk_at}
+use Rattle.buffer_state.specs.declared.chunk.Stage.TheVariants.{Queued}
+use Rattle.journal_files.specs.Folders.{Opens}
 use Rattle.journal_files.specs.JournalLogs.{JournalLog, IsJournalLog, IsOfSome}
 use Rattle.journal_files.specs.Views.{OpenJournal}
 use Rattle.journal_files.specs.Disks.{Recovers}
 use Rattle.buffer_store.specs.Buffers.{Holds}
-use Rattle.buffer_store.specs.Durability.{KeepsQueued}
+use Rattle.buffer_store.specs.Durability.{IsNamed, durably}
 
 -- where the disk holds a buffer, each stop is recovered from
 abbrev pub HoldsRecovers : Type 0
@@ -21,8 +22,10 @@ RecoversWhatIsDurable = (path : List ℕ) (disk : Disk) (t : JournalLog) (folder
     → Recovers path disk t → StopLeaves disk folder
     → (state : State) → Opens path folder state → IsOfSome t state
 
--- a folder that opens so has each chunk that was queued durably as it was, or not at all, and the
--- next serial is above each of them
+-- the state after some of the steps told, all durable ones among them, has each chunk that was
+-- queued durably as it was, or not at all, and the next serial is above each of them
 abbrev pub QueuedLasts : Type 0
-QueuedLasts = (path : List ℕ) (t : JournalLog) (folder : Folder) → IsJournalLog t
-    → OpensWithin path t folder → KeepsQueued path t folder
+QueuedLasts = (t : JournalLog) (state : State) → IsJournalLog t → IsOfSome t state
+    → ((durably t).next ≤ state.next)
+    × ((serial : ℕ) (chunk : Chunk) → chunk_at (durably t) serial ≡ Some chunk
+    → chunk.stage ≡ Queued → IsNamed serial chunk state)
