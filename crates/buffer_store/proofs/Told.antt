@@ -22,7 +22,7 @@ use Rattle.journal_files.proofs.Recovery.{recovers}
 use Rattle.journal_files.proofs.Steps.{more_steps}
 use Rattle.journal_files.proofs.OpeningMoments.{recovers_same}
 use Rattle.journal_files.proofs.Strays.{same_gap, kept_no_gap}
-use Rattle.buffer_store.specs.Buffers.{Held, Holds, HoldsNow, with_more, durable_if}
+use Rattle.buffer_store.specs.Buffers.{Held, HoldsNow, with_more, durable_if}
 use Rattle.buffer_store.specs.Calls.{Stays, StaysWithin, Begins}
 use Rattle.buffer_store.specs.Durability.{MayBeLost, LosesOnly, IsDurable, BeganWell, IsSound, IsNamed, Lasts, Endures, KeepsClaims, durably}
 use Rattle.buffer_store.specs.Logs.{Logged, Writes, Syncs, Renews, is_append, held_of}
@@ -217,13 +217,13 @@ module _ {D : Type 0} (is_honest : D → Type 0) (history : D → History) (faul
         by (Err e) (inr m) q = cc (m, q)
 
     module _ (item : Record) (changed : State) (step : (t : JournalLog) → Same (state_of t) chunks → Allows (state_of t) item × Same (after (state_of t) item) changed) where
-      allowed_by : (t : JournalLog) → Holds log.journal chunks (now (history log.dir)) t → Allows (state_of t) item
+      allowed_by : (t : JournalLog) → HoldsNow history (held_of log chunks settings) t → Allows (state_of t) item
       allowed_by t holds = (step t (same_from (state_of t) chunks holds.means)).0
 
-      means_by : (t : JournalLog) (synced : Bool) → Holds log.journal chunks (now (history log.dir)) t → other ≡ changed → settled (state_of (durable_if synced (begun item t))) ≡ reopened other
+      means_by : (t : JournalLog) (synced : Bool) → HoldsNow history (held_of log chunks settings) t → other ≡ changed → settled (state_of (durable_if synced (begun item t))) ≡ reopened other
       means_by t synced holds is = ap settled (durable_means synced (begun item t)) ∙ begun_means t item other (subst (Same (after (state_of t) item)) (sym is) (step t (same_from (state_of t) chunks holds.means)).1)
 
-      named_moments : {synced : Bool} (result : Result (Unit {0}) BufferFault) → Writes is_honest history fault_count log next item synced result → is_honest log.dir → (t : JournalLog) → Holds log.journal chunks (now (history log.dir)) t → (serial : ℕ) (chunk : Chunk)
+      named_moments : {synced : Bool} (result : Result (Unit {0}) BufferFault) → Writes is_honest history fault_count log next item synced result → is_honest log.dir → (t : JournalLog) → HoldsNow history (held_of log chunks settings) t → (serial : ℕ) (chunk : Chunk)
           → IsNamed serial chunk (durably t) → LeavesOnly (history log.dir) (history next.dir) (Lasts log.journal.path serial chunk)
       named_moments result w honest t holds serial chunk named =
           weaker (history log.dir) (history next.dir) (OpensWithin log.journal.path (begun item t)) (Lasts log.journal.path serial chunk)
@@ -581,7 +581,7 @@ durable_same is_honest history b c counts durable = record {
 
 -- ---- a buffer that was just opened
 
-pub durable_new : {D : Type 0} (is_honest : D → Type 0) (history : D → History) (b : Held D) → b.failed ≡ false → is_honest b.dir → Holds b.journal b.chunks (now (history b.dir)) (new_generation b.chunks) → IsDurable is_honest history b
+pub durable_new : {D : Type 0} (is_honest : D → Type 0) (history : D → History) (b : Held D) → b.failed ≡ false → is_honest b.dir → HoldsNow history b (new_generation b.chunks) → IsDurable is_honest history b
 durable_new is_honest history b going honest holds = record {
   honest = honest;
   going = λ _. record { logged = new_generation b.chunks; holds = holds; loses = tt };

@@ -1,6 +1,5 @@
 -- What contracts see of a buffer, and how its journal tells its chunks.
 use Rattle.std.specs.Prelude.{ℕ, ◌≡◌, Bool, Option, Some, None, cond}
-use Rattle.disk_files.specs.Disk.{Disk}
 use Rattle.disk_files.specs.Moments.{History, now}
 use Rattle.buffer_state.specs.declared.limits.Limits.{Limits}
 use Rattle.buffer_state.specs.State.{State}
@@ -21,16 +20,12 @@ pub record Held (D : Type 0) : Type 0 where
   pub staged : Bool  -- whether some append that was told isn't synced
   pub start : D  -- the folder as the opening found it
 
--- The disk has the journal, whole, and it means the chunks in memory, claimed ones counted as
--- queued.
-pub record Holds (journal : OpenJournal) (chunks : State) (disk : Disk)
+-- The disk has the journal of the buffer, whole, and it means the chunks in memory, claimed ones
+-- counted as queued.
+pub record HoldsNow {D : Type 0} (history : D → History) (buffer : Held D)
     (t : JournalLog) : Type 0 where
-  pub keeps : Keeps journal disk t
-  pub means : settled (state_of t) ≡ reopened chunks
-
--- the disk has the journal of the buffer so
-abbrev pub HoldsNow : {D : Type 0} → (D → History) → Held D → JournalLog → Type 0
-HoldsNow history buffer t = Holds buffer.journal buffer.chunks (now (history buffer.dir)) t
+  pub keeps : Keeps buffer.journal (now (history buffer.dir)) t
+  pub means : settled (state_of t) ≡ reopened buffer.chunks
 
 -- these steps, and one more where a call began one
 abbrev pub with_more : Option Record → JournalLog → JournalLog

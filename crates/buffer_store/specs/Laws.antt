@@ -5,17 +5,10 @@ use Rattle.buffer_state.specs.State.{Chunk, State, chunk_at}
 use Rattle.buffer_state.specs.declared.chunk.Stage.TheVariants.{Queued}
 use Rattle.journal_files.specs.Folders.{Opens}
 use Rattle.journal_files.specs.JournalLogs.{JournalLog, IsJournalLog, IsOfSome}
-use Rattle.journal_files.specs.Views.{OpenJournal}
 use Rattle.journal_files.specs.Disks.{Recovers}
-use Rattle.buffer_store.specs.Buffers.{Holds}
 use Rattle.buffer_store.specs.Durability.{IsNamed, durably}
 
--- where the disk holds a buffer, each stop is recovered from
-abbrev pub HoldsRecovers : Type 0
-HoldsRecovers = (journal : OpenJournal) (chunks : State) (disk : Disk) (t : JournalLog)
-    → Holds journal chunks disk t → Recovers journal.path disk t
-
--- a folder that such a stop leaves opens to no other state than one after some of the steps told,
+-- a folder that a stop leaves opens to no other state than one after some of the steps told,
 -- all durable ones among them
 abbrev pub RecoversWhatIsDurable : Type 0
 RecoversWhatIsDurable = (path : List ℕ) (disk : Disk) (t : JournalLog) (folder : Folder)

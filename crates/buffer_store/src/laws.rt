@@ -1,6 +1,7 @@
 //! What holds of every buffer. These functions do nothing: each stands for a theorem.
 
-ghost use Rattle.buffer_store.specs.Laws.{HoldsRecovers, RecoversWhatIsDurable, QueuedLasts};
+ghost use Rattle.journal_files.specs.Laws.{RecoversAll};
+ghost use Rattle.buffer_store.specs.Laws.{RecoversWhatIsDurable, QueuedLasts};
 
 use journal_files::{opens_one_way, recovers_all};
 
@@ -9,7 +10,7 @@ use journal_files::{opens_one_way, recovers_all};
 /// among them whose call answered `Ok` after a sync. So it is wherever the disk holds a buffer, and
 /// also after a device's fault.
 pub fn recovers_what_is_durable()
-    ensures holds { HoldsRecovers }
+    ensures kept { RecoversAll }
     ensures recovers { RecoversWhatIsDurable }
 {
     // Called for their laws alone.

@@ -2,12 +2,12 @@
 
 ghost use Rattle.std.specs.Prelude.{◌≡◌, false, IfOk, IfErr};
 ghost use Rattle.disk_files.specs.Moments.{now};
-ghost use Rattle.journal_files.specs.Disks.{HasNoGap};
+ghost use Rattle.buffer_state.specs.Steps.{reopened, settled};
+ghost use Rattle.journal_files.specs.Disks.{Keeps, HasNoGap};
 ghost use Rattle.journal_files.specs.Faults.{HasReason};
-ghost use Rattle.journal_files.specs.JournalLogs.{new_generation};
+ghost use Rattle.journal_files.specs.JournalLogs.{new_generation, state_of};
 ghost use Rattle.journal_files.specs.Openings.{OpensNext, IsFresh, LeavesFolder};
 ghost use Rattle.journal_files.specs.Views.{IsOpenIn, HasShortTags};
-ghost use Rattle.buffer_store.specs.Buffers.{Holds};
 ghost use Rattle.buffer_store.specs.Openings.{IsSet, RefusesOpening, answer_of, left_of};
 ghost use Rattle.buffer_store.specs.declared.fault.BufferFault.{BufferFault};
 
@@ -76,8 +76,9 @@ fn opened<D: Dir, A: Allocator + Copy>(
     requires open { IsOpenIn journal (D.opened dir) }
     requires tags { HasShortTags chunks }
     requires honest { D.is_honest start.value → D.is_honest dir }
-    requires holds { D.is_honest start.value → HasNoGap journal.path (now (D.history start.value))
-        → Holds journal chunks (now (D.history dir)) (new_generation chunks) }
+    requires keeps { D.is_honest start.value → HasNoGap journal.path (now (D.history start.value))
+        → Keeps journal (now (D.history dir)) (new_generation chunks) }
+    requires means { settled (state_of (new_generation chunks)) ≡ reopened chunks }
     ensures { result ≡ record {
       dir = dir;
       journal = journal;

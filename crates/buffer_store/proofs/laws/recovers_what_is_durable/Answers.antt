@@ -1,8 +1,5 @@
 use Rattle.buffer_store.proofs.laws.recovers_what_is_durable.Goals as goal
 
-pub returns-clause-holds : goal.returns-clause-holds
-returns-clause-holds c journal chunks disk t holds = c.recovers_all.ensures journal disk t holds.keeps
-
 pub returns-clause-recovers : goal.returns-clause-recovers
 returns-clause-recovers c path disk t folder recovers left state opens =
     let within = recovers folder left in

@@ -15,11 +15,14 @@ opened-requires-clause-tags g c = c.in-Ok.ensures.fresh.tags
 pub opened-requires-clause-honest : goal.opened-requires-clause-honest
 opened-requires-clause-honest g c = λ honest. (c.in-Ok.ensures.leaves (subst g.D.Dir.is_honest c.of-start.ensures honest)).honest
 
-pub opened-requires-clause-holds : goal.opened-requires-clause-holds
-opened-requires-clause-holds g c = λ honest stray.
+pub opened-requires-clause-means : goal.opened-requires-clause-means
+opened-requires-clause-means g c = c.in-Ok.ensures.fresh.starts
+
+pub opened-requires-clause-keeps : goal.opened-requires-clause-keeps
+opened-requires-clause-keeps g c = λ honest stray.
     let stray0 : HasNoGap c.args.path.now (now (g.D.Dir.history c.args.dir)) = subst (λ (d : g.row.D.Denot). HasNoGap c.args.path.now (now (g.D.Dir.history d))) c.of-start.ensures
     (subst (λ (p : List ℕ). HasNoGap p (now (g.D.Dir.history c.of-start.result.value))) c.in-Ok.ensures.fresh.path_is stray) in
-    record { keeps = (c.in-Ok.ensures.opens (subst g.D.Dir.is_honest c.of-start.ensures honest)).keeps stray0; means = c.in-Ok.ensures.fresh.starts }
+    (c.in-Ok.ensures.opens (subst g.D.Dir.is_honest c.of-start.ensures honest)).keeps stray0
 
 pub returns-in-Ok-clause-opens : goal.returns-in-Ok-clause-opens
 returns-in-Ok-clause-opens g c = λ honest.
