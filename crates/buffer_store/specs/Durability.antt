@@ -1,16 +1,16 @@
 -- What the type of a buffer keeps of the disk, whatever calls are made: over a folder that was
 -- honest when the buffer was opened.
-use Rattle.std.specs.Prelude.{ℕ, ◌≡◌, ◌⊎◌, ◌<◌, Bool, true, false, List, drop, Option, Some, None, IfSome}
+use Rattle.std.specs.Prelude.{ℕ, ◌≡◌, ◌⊎◌, ◌<◌, ◌≤◌, Bool, true, false, List, length, drop, Option, Some, None, IfSome}
 use Rattle.std.specs.List.{AllByRecursion}
 use Rattle.disk_files.specs.Disk.{Folder, StopLeaves}
 use Rattle.disk_files.specs.Moments.{History, LeavesOnly, now}
+use Rattle.event_modes.specs.Message.{longest_tag}
 use Rattle.buffer_state.specs.State.{Chunk, State, chunk_at}
 use Rattle.buffer_state.specs.Steps.{settled, reopened}
 use Rattle.buffer_state.specs.declared.chunk.Stage.TheVariants.{Queued}
 use Rattle.chunk_journal.specs.Records.{Record, Append, Purge}
 use Rattle.journal_files.specs.Folders.{Opens}
 use Rattle.journal_files.specs.JournalLogs.{JournalLog, IsJournalLog, state_of, reopened_at}
-use Rattle.journal_files.specs.Views.{HasShortTags}
 use Rattle.journal_files.specs.Disks.{Recovers, HasNoGap}
 use Rattle.buffer_store.specs.Buffers.{Held, HoldsNow, with_more}
 
@@ -63,7 +63,7 @@ BeganWell is_honest history buffer = is_honest buffer.start
 -- What every buffer keeps: no tag is too long, and it is durable where it began well.
 pub record IsSound {D : Type 0} (is_honest : D → Type 0) (history : D → History)
     (buffer : Held D) : Type 0 where
-  pub tags : HasShortTags buffer.chunks
+  pub tags : AllByRecursion (λ numbered. length numbered.1.tag ≤ longest_tag) buffer.chunks.chunks
   pub durable : BeganWell is_honest history buffer → IsDurable is_honest history buffer
 
 -- the state after the steps that each stop leaves, as opening gives it
