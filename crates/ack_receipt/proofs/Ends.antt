@@ -13,7 +13,7 @@ use Rattle.buffer_state.proofs.Serials.{at_itself, at_same}
 use Rattle.buffer_state.specs.State.{State}
 use Rattle.buffer_state.specs.Steps.{planned}
 use Rattle.buffer_store.specs.Buffers.{Held}
-use Rattle.buffer_store.specs.Calls.{Flags}
+use Rattle.buffer_store.specs.Logs.{Flags}
 use Rattle.buffer_store.specs.Refusals.{of_plan}
 use Rattle.buffer_store.specs.declared.fault.BufferFault.{BufferFault}
 use Rattle.buffer_store.specs.declared.fault.BufferFault.TheVariants as fault

@@ -11,7 +11,7 @@ use Rattle.book_audit.specs.Audits.{Pages, SameLines, Writes, open_at}
 use Rattle.event_modes.specs.Message.{longest_tag}
 use Rattle.buffer_state.specs.Steps.{appended, planned, removed}
 use Rattle.buffer_state.specs.declared.limits.AppendFault.{AppendFault}
-use Rattle.buffer_store.specs.Calls.{Flags}
+use Rattle.buffer_store.specs.Logs.{Flags}
 use Rattle.buffer_store.specs.Refusals.{of_plan}
 use Rattle.buffer_store.specs.declared.fault.BufferFault.{BufferFault}
 use Rattle.buffer_store.specs.Buffers.{Held}

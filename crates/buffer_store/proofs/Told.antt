@@ -25,7 +25,7 @@ use Rattle.journal_files.proofs.Strays.{same_gap, kept_no_gap}
 use Rattle.buffer_store.specs.Buffers.{Held, HoldsNow, with_more, durable_if}
 use Rattle.buffer_store.specs.Calls.{Stays, StaysWithin, Begins}
 use Rattle.buffer_store.specs.Durability.{MayBeLost, LosesOnly, IsDurable, BeganWell, IsSound, IsNamed, Lasts, Endures, KeepsClaims, durably}
-use Rattle.buffer_store.specs.Logs.{Logged, Writes, Syncs, Renews, is_append, held_of}
+use Rattle.buffer_store.specs.Logs.{Logged, Flags, Writes, Syncs, Renews, is_append, held_of}
 use Rattle.buffer_store.specs.declared.settings.Settings.{Settings}
 use Rattle.buffer_store.specs.declared.fault.BufferFault.{BufferFault}
 use Rattle.buffer_store.specs.declared.fault.BufferFault.TheVariants as fault
@@ -61,6 +61,26 @@ is_fault fault.Failed = inr (λ q. cc q)
 is_fault fault.LastSerial = inr (λ q. cc q)
 is_fault fault.Damaged = inr (λ q. cc q)
 is_fault fault.Memory = inr (λ q. cc q)
+
+-- the device's fault is answered, or something else
+faulty : {T : Type 0} (result : Result T BufferFault) → (result ≡ Err fault.Fault) ⊎ (result ≢ Err fault.Fault)
+faulty (Ok x) = inr (λ q. cc q)
+faulty (Err e) = ⊎_elim (λ is. inl (ap (λ (f : BufferFault). Err f) is)) (λ not. inr (λ q. not (cc q))) (is_fault e)
+
+-- the failed flag, by case and in one sentence
+flags_told : {T : Type 0} (old new : Bool) (result : Result T BufferFault) → Flags old new result → (new ≡ true) ↔ ((old ≡ true) ⊎ (result ≡ Err fault.Fault))
+flags_told old new result flags = (
+  λ failed. ⊎_elim (λ is. inr is) (λ no. inl (sym (flags.stays no) ∙ failed)) (faulty result),
+  λ why. ⊎_elim (λ was. ⊎_elim (λ is. flags.fails is) (λ no. flags.stays no ∙ was) (faulty result)) (λ is. flags.fails is) why,
+)
+
+pub flags_of : {T : Type 0} (old new : Bool) (result : Result T BufferFault) → (new ≡ true) ↔ ((old ≡ true) ⊎ (result ≡ Err fault.Fault)) → Flags old new result
+flags_of {T} old new result told = record { fails = λ is. told.1 (inr is); stays = by old new told }
+  where
+    by : (b c : Bool) → (c ≡ true) ↔ ((b ≡ true) ⊎ (result ≡ Err fault.Fault)) → result ≢ Err fault.Fault → c ≡ b
+    by true c h other = h.1 (inl refl)
+    by false true h other = absurd (⊎_elim (λ f. cc f) (λ is. other is) (h.0 refl))
+    by false false h other = refl
 
 module _ {D : Type 0} (history : D → History) where
   -- nothing changed
@@ -107,7 +127,7 @@ module _ {D : Type 0} (is_honest : D → Type 0) (history : D → History) (faul
     rest = record {
       err = refl;
       failed = failed;
-      flags = record { fails = λ q. absurd (not (cc q)); stays = λ _. refl };
+      flags = (λ t. inl t, λ why. ⊎_elim (λ t. t) (λ q. absurd (not (cc q))) why);
       staged = refl;
       limits = refl;
       renewed_past = refl;
@@ -197,7 +217,7 @@ module _ {D : Type 0} (is_honest : D → Type 0) (history : D → History) (faul
       rest = record {
         err = err;
         failed = (λ q. absurd (by result w.only q), λ q. absurd (true≢false (sym q ∙ going)));
-        flags = w.flags;
+        flags = flags_told log.failed next.failed result w.flags;
         staged = w.kept;
         limits = refl;
         renewed_past = refl;
@@ -307,7 +327,7 @@ module _ {D T : Type 0} (is_honest : D → Type 0) (history : D → History) (fa
   durable_failed stays before durable =
       let ne : refusing T fault.Failed ≢ Err fault.Fault = λ q. cc q in
       let disk : SameDisk (now (history new.dir)) (now (history old.dir)) = stays.untouched durable.honest ne (λ q. cc q) in
-      let flag : new.failed ≡ true = stays.flags.stays ne ∙ before in
+      let flag : new.failed ≡ true = stays.flags.1 (inl before) in
       let k = durable.failed before in
       record {
         honest = stays.honest durable.honest;
@@ -329,7 +349,7 @@ module _ {D T : Type 0} (is_honest : D → Type 0) (history : D → History) (fa
   durable_ok : (x : T) → Stays is_honest history fault_count old new (Ok x) → Begins history old new more answered (Ok x) → ((t : JournalLog) → LosesOnly old.staged t → LosesOnly new.staged (answered (with_more more t)))
       → old.failed ≡ false → IsDurable is_honest history old → IsDurable is_honest history new
   durable_ok x stays begins loses before durable =
-      let flag : new.failed ≡ false = stays.flags.stays (λ q. cc q) ∙ before in
+      let flag : new.failed ≡ false = (flags_of old.failed new.failed (Ok x) stays.flags).stays (λ q. cc q) ∙ before in
       let k = durable.going before in
       record {
         honest = stays.honest durable.honest;
@@ -342,7 +362,7 @@ module _ {D T : Type 0} (is_honest : D → Type 0) (history : D → History) (fa
       let k = durable.going before in
       record {
         honest = stays.honest durable.honest;
-        going = λ going. absurd (true≢false (sym (stays.flags.fails refl) ∙ going));
+        going = λ going. absurd (true≢false (sym (stays.flags.1 (inr refl)) ∙ going));
         failed = λ _. (
           more,
           record {
@@ -361,7 +381,7 @@ module _ {D T : Type 0} (is_honest : D → Type 0) (history : D → History) (fa
       → IsDurable is_honest history new
   durable_refused e not stays begins before durable =
       let ne : refusing T e ≢ Err fault.Fault = λ q. not (cc q) in
-      let flag : new.failed ≡ false = stays.flags.stays ne ∙ before in
+      let flag : new.failed ≡ false = (flags_of old.failed new.failed (refusing T e) stays.flags).stays ne ∙ before in
       let k = durable.going before in
       record {
         honest = stays.honest durable.honest;
@@ -430,7 +450,7 @@ module _ {D : Type 0} (is_honest : D → Type 0) (history : D → History) (faul
     rest = record {
       err = on_err result refl;
       failed = (λ q. absurd (by result s.only q), λ q. absurd (true≢false (sym q ∙ going)));
-      flags = s.flags;
+      flags = flags_told log.failed next.failed result s.flags;
       staged = s.kept;
       limits = refl;
       renewed_past = refl;
@@ -500,7 +520,7 @@ module _ {D : Type 0} (is_honest : D → Type 0) (history : D → History) (faul
   renews_stays result s = record {
     err = on_err result refl;
     failed = (λ q. absurd (by result s.only q), λ q. absurd (true≢false (sym q ∙ going)));
-    flags = s.flags;
+    flags = flags_told log.failed next.failed result s.flags;
     staged = s.kept;
     limits = refl;
     renewed_past = refl;

@@ -1,5 +1,5 @@
 -- What the calls of a buffer have in common.
-use Rattle.std.specs.Prelude.{ℕ, ◌≡◌, ◌≢◌, ◌↔◌, ◌+◌, Bool, true, List, Option, None, Result, OnOk, OnErr, Err}
+use Rattle.std.specs.Prelude.{ℕ, ◌≡◌, ◌≢◌, ◌↔◌, ◌⊎◌, ◌+◌, true, List, Option, None, Result, OnOk, OnErr, Err}
 use Rattle.disk_files.specs.Disk.{SameDisk, reads}
 use Rattle.disk_files.specs.Moments.{History, Passes, LeavesOnly, now}
 use Rattle.chunk_journal.specs.Records.{Record}
@@ -12,18 +12,13 @@ use Rattle.buffer_store.specs.Buffers.{Held, HoldsNow, with_more}
 use Rattle.buffer_store.specs.Durability.{BeganWell, KeepsClaims}
 use Rattle.buffer_store.specs.declared.fault.BufferFault.{BufferFault}
 
--- how a call leaves the failed flag: it rises with a `Fault`, and stays at all else
-pub record Flags {T : Type 0} (old new : Bool) (result : Result T BufferFault) : Type 0 where
-  pub fails : result ≡ Err BufferFault.Fault → new ≡ true
-  pub stays : result ≢ Err BufferFault.Fault → new ≡ old
-
 -- What each call that writes leaves alone. A refusal keeps the chunks, and but for a fault or
 -- damage the folder too; a buffer that the device failed before refuses the call.
 pub record Stays {D T : Type 0} (is_honest : D → Type 0) (history : D → History)
     (fault_count : D → ℕ) (old new : Held D) (result : Result T BufferFault) : Type 0 where
   pub err : OnErr result (new.chunks ≡ old.chunks)
   pub failed : (result ≡ Err BufferFault.Failed) ↔ (old.failed ≡ true)
-  pub flags : Flags old.failed new.failed result
+  pub flags : (new.failed ≡ true) ↔ ((old.failed ≡ true) ⊎ (result ≡ Err BufferFault.Fault))
   pub staged : OnErr result (new.staged ≡ old.staged)
   pub limits : new.limits ≡ old.limits
   pub renewed_past : new.renewed_past ≡ old.renewed_past

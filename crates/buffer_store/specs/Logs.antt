@@ -17,7 +17,6 @@ use Rattle.journal_files.specs.Leftovers.{LeavesAtMost}
 use Rattle.buffer_state.specs.State.{State}
 use Rattle.buffer_store.specs.Buffers.{Held, durable_if}
 use Rattle.buffer_store.specs.declared.settings.Settings.{Settings}
-use Rattle.buffer_store.specs.Calls.{Flags}
 use Rattle.buffer_store.specs.declared.fault.BufferFault.{BufferFault}
 
 -- the folder, the journal that is open in it, how the device has done since, and the folder as the
@@ -72,6 +71,11 @@ pub record Reads {D A : Type 0} (is_honest : D → Type 0) (history : D → Hist
       → IfOk result (λ bytes. bytes.items ≡ entries_at (state_of t) serial)
   pub whole : is_honest old.dir → (t : JournalLog) → KeepsNow history old t
       → result ≢ Err BufferFault.Damaged
+
+-- how a call leaves the failed flag: it rises with a `Fault`, and stays at all else
+pub record Flags {T : Type 0} (old new : Bool) (result : Result T BufferFault) : Type 0 where
+  pub fails : result ≡ Err BufferFault.Fault → new ≡ true
+  pub stays : result ≢ Err BufferFault.Fault → new ≡ old
 
 -- One record more is told, and synced or not. The error is want of memory or the device's fault.
 pub record Writes {D T : Type 0} (is_honest : D → Type 0) (history : D → History)

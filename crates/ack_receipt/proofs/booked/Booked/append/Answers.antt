@@ -9,6 +9,7 @@ use Rattle.ack_receipt.specs.Books.{Book, IsAccounted, IsSound, book_of}
 use Rattle.book_audit.specs.Audits.{Writes}
 use Rattle.ack_receipt.specs.Books.{Steady, Unchanged}
 use Rattle.buffer_store.specs.declared.fault.BufferFault.TheVariants as fault
+use Rattle.buffer_store.proofs.Told.{flags_of}
 use Rattle.ack_receipt.proofs.Ends.{told, on_err, refuses_as, refuses_after, refuses_none, steady_as, steady_err, steady_ok, steady_memory, unchanged, unchanged_parts, writes_on}
 use Rattle.ack_receipt.proofs.Accounts.{accounted_appended}
 use Rattle.ack_receipt.proofs.Answered.{below_of_plan, place_of_plan}
@@ -83,7 +84,7 @@ pub returns-in_err-append-clause-refused : goal.returns-in_err-append-clause-ref
 returns-in_err-append-clause-refused g c = refuses_as c.args.tag.now c.args.entries.now c.args.self.now c.in_err-append.field-0.0 (Err c.in_err-append.field-0.0) c.from_residual-in_err-append.result refl (told c.in_err-append.field-0.0 c.from_residual-in_err-append.result c.from_residual-in_err-append.ensures.1) (refuses_after c.args.tag.now c.args.entries.now c.args.self.now c.in_ok-serial.serial (Err c.in_err-append.field-0.0) (c.in_err-append.ensures.accepted (subst (λ (b : Book g.row.D.Denot). b.buffer.failed ≡ false) (sym c.self.view_is) c.in_ok-serial.ensures.going) c.in_ok-serial.serial (subst (λ (b : Book g.row.D.Denot). planned b.buffer.limits b.buffer.chunks c.args.tag.now c.args.entries.now ≡ Ok c.in_ok-serial.serial) (sym c.self.view_is) c.in_ok-serial.ensures.place)) c.in_ok-serial.ensures.refused)
 
 pub returns-in_err-append-clause-steady : goal.returns-in_err-append-clause-steady
-returns-in_err-append-clause-steady g c = let s = c.in_err-append.ensures.rest.rest in subst (λ (b : Book g.row.D.Denot). Steady b.buffer c.append.new.self c.from_residual-in_err-append.result) c.self.view_is (steady_err c.self.inside.buffer c.append.new.self c.in_err-append.field-0.0 (Err c.in_err-append.field-0.0) c.from_residual-in_err-append.result refl (told c.in_err-append.field-0.0 c.from_residual-in_err-append.result c.from_residual-in_err-append.ensures.1) s.failed s.flags s.limits)
+returns-in_err-append-clause-steady g c = let s = c.in_err-append.ensures.rest.rest in subst (λ (b : Book g.row.D.Denot). Steady b.buffer c.append.new.self c.from_residual-in_err-append.result) c.self.view_is (steady_err c.self.inside.buffer c.append.new.self c.in_err-append.field-0.0 (Err c.in_err-append.field-0.0) c.from_residual-in_err-append.result refl (told c.in_err-append.field-0.0 c.from_residual-in_err-append.result c.from_residual-in_err-append.ensures.1) s.failed (flags_of c.self.inside.buffer.failed c.append.new.self.failed (Err c.in_err-append.field-0.0) s.flags) s.limits)
 
 pub returns-clause-noted : goal.returns-clause-noted
 returns-clause-noted g c =
@@ -124,4 +125,4 @@ pub returns-clause-refused : goal.returns-clause-refused
 returns-clause-refused g c = refuses_none c.args.tag.now c.args.entries.now c.args.self.now c.in_ok-serial.serial (record { serial = c.in_ok-serial.serial; line = c.write_reserved-line.result }) c.in_ok-serial.ensures.refused
 
 pub returns-clause-steady : goal.returns-clause-steady
-returns-clause-steady g c = let s = c.in_ok-append.ensures.rest.rest in subst (λ (b : Book g.row.D.Denot). Steady b.buffer c.append.new.self (Ok (record { serial = c.in_ok-serial.serial; line = c.write_reserved-line.result }))) c.self.view_is (steady_ok c.self.inside.buffer c.append.new.self c.in_ok-append.field-0 (Ok c.in_ok-append.field-0) (record { serial = c.in_ok-serial.serial; line = c.write_reserved-line.result }) refl s.failed s.flags s.limits)
+returns-clause-steady g c = let s = c.in_ok-append.ensures.rest.rest in subst (λ (b : Book g.row.D.Denot). Steady b.buffer c.append.new.self (Ok (record { serial = c.in_ok-serial.serial; line = c.write_reserved-line.result }))) c.self.view_is (steady_ok c.self.inside.buffer c.append.new.self c.in_ok-append.field-0 (Ok c.in_ok-append.field-0) (record { serial = c.in_ok-serial.serial; line = c.write_reserved-line.result }) refl s.failed (flags_of c.self.inside.buffer.failed c.append.new.self.failed (Ok c.in_ok-append.field-0) s.flags) s.limits)

@@ -12,6 +12,7 @@ use Rattle.book_audit.specs.Audits.{SameLines}
 use Rattle.ack_receipt.specs.Books.{Appends, Steady, Unchanged}
 use Rattle.buffer_store.specs.declared.fault.BufferFault.TheVariants as fault
 use Rattle.buffer_state.proofs.Serials.{at_itself}
+use Rattle.buffer_store.proofs.Told.{flags_of}
 use Rattle.ack_receipt.proofs.Ends.{told, on_err, kept_at, refuses_as, refuses_after, refuses_none, steady_as, steady_err, steady_ok, steady_memory, unchanged, unchanged_parts, sound_again, sound_roomy, none_behind, gone_again}
 use Rattle.ack_receipt.proofs.Accounts.{accounted_appended}
 use Rattle.ack_receipt.proofs.Answered.{below_of_plan, place_of_plan, put_at}
@@ -100,7 +101,7 @@ pub returns-in-Err-clause-refused : goal.returns-in-Err-clause-refused
 returns-in-Err-clause-refused g c = refuses_as c.args.tag.now c.args.entries.now c.args.self.now c.in-Err.fault (Err c.in-Err.fault) (Err c.in-Err.fault) refl refl (refuses_after c.args.tag.now c.args.entries.now c.args.self.now c.in_ok-serial.serial (Err c.in-Err.fault) (c.in-Err.ensures.accepted (subst (λ (b : Book g.row.D.Denot). b.buffer.failed ≡ false) (sym c.self.view_is) c.in_ok-serial.ensures.going) c.in_ok-serial.serial (subst (λ (b : Book g.row.D.Denot). planned b.buffer.limits b.buffer.chunks c.args.tag.now c.args.entries.now ≡ Ok c.in_ok-serial.serial) (sym c.self.view_is) c.in_ok-serial.ensures.place)) c.in_ok-serial.ensures.refused)
 
 pub returns-in-Err-clause-steady : goal.returns-in-Err-clause-steady
-returns-in-Err-clause-steady g c = let s = c.in-Err.ensures.rest.rest in subst (λ (b : Book g.row.D.Denot). Steady b.buffer c.stage.new.self (Err c.in-Err.fault)) c.self.view_is (steady_err c.self.inside.buffer c.stage.new.self c.in-Err.fault (Err c.in-Err.fault) (Err c.in-Err.fault) refl refl s.failed s.flags s.limits)
+returns-in-Err-clause-steady g c = let s = c.in-Err.ensures.rest.rest in subst (λ (b : Book g.row.D.Denot). Steady b.buffer c.stage.new.self (Err c.in-Err.fault)) c.self.view_is (steady_err c.self.inside.buffer c.stage.new.self c.in-Err.fault (Err c.in-Err.fault) (Err c.in-Err.fault) refl refl s.failed (flags_of c.self.inside.buffer.failed c.stage.new.self.failed (Err c.in-Err.fault) s.flags) s.limits)
 
 pub returns-clause-noted : goal.returns-clause-noted
 returns-clause-noted g c =
@@ -133,7 +134,7 @@ pub returns-clause-refused : goal.returns-clause-refused
 returns-clause-refused g c = refuses_none c.args.tag.now c.args.entries.now c.args.self.now c.in_ok-serial.serial (record { serial = c.in_ok-serial.serial; place = c.self.inside.count }) c.in_ok-serial.ensures.refused
 
 pub returns-clause-steady : goal.returns-clause-steady
-returns-clause-steady g c = let s = c.in_default.ensures.rest.rest in subst (λ (b : Book g.row.D.Denot). Steady b.buffer c.stage.new.self (Ok (record { serial = c.in_ok-serial.serial; place = c.self.inside.count }))) c.self.view_is (steady_ok c.self.inside.buffer c.stage.new.self c.in_default.field-0 (Ok c.in_default.field-0) (record { serial = c.in_ok-serial.serial; place = c.self.inside.count }) refl s.failed s.flags s.limits)
+returns-clause-steady g c = let s = c.in_default.ensures.rest.rest in subst (λ (b : Book g.row.D.Denot). Steady b.buffer c.stage.new.self (Ok (record { serial = c.in_ok-serial.serial; place = c.self.inside.count }))) c.self.view_is (steady_ok c.self.inside.buffer c.stage.new.self c.in_default.field-0 (Ok c.in_default.field-0) (record { serial = c.in_ok-serial.serial; place = c.self.inside.count }) refl s.failed (flags_of c.self.inside.buffer.failed c.stage.new.self.failed (Ok c.in_default.field-0) s.flags) s.limits)
 
 pub invariant_of-self-then-is_err : goal.invariant_of-self-then-is_err
 invariant_of-self-then-is_err g c =
