@@ -1,5 +1,5 @@
--- What opening a buffer gives, why it is refused, and the folder that it leaves.
-use Rattle.std.specs.Prelude.{ℕ, ◌≡◌, false, List, Result, Ok, Err}
+-- What opening a buffer gives, and why it is refused.
+use Rattle.std.specs.Prelude.{ℕ, ◌≡◌, false, List}
 use Rattle.disk_files.specs.Disk.{Disk}
 use Rattle.journal_files.specs.Openings.{IsRefused}
 use Rattle.journal_files.specs.declared.error.JournalError.{JournalError}
@@ -16,17 +16,6 @@ pub record IsSet {D : Type 0} (dir : D) (settings : Settings) (buffer : Held D) 
   pub renewed_past : buffer.renewed_past ≡ settings.renewed_past
   pub going : buffer.failed ≡ false
   pub synced : buffer.staged ≡ false
-
--- the folder that an opening leaves: the buffer's, or the one that is handed back
-abbrev pub left_of : {D : Type 0} → Result (Held D) (BufferFault × D) → D
-left_of (Ok buffer) = buffer.dir
-left_of (Err refused) = refused.1
-
--- its answer, without the folder that a refusal hands back
-abbrev pub answer_of : {D : Type 0}
-    → Result (Held D) (BufferFault × D) → Result (Held D) BufferFault
-answer_of (Ok buffer) = Ok buffer
-answer_of (Err refused) = Err refused.0
 
 -- A refusal is one of the journal's, under the buffer's name for it. Over an honest folder it has
 -- that one's reasons, and leaves what that one leaves.

@@ -1,6 +1,7 @@
 //! A buffer is opened: its chunks are what the journal in the folder means.
 
-ghost use Rattle.std.specs.Prelude.{◌≡◌, false, IfOk, IfErr};
+ghost use Rattle.std.specs.Prelude.{◌≡◌, false, Err, IfOk, IfErr};
+ghost use Rattle.std.specs.Result.{MatchResult};
 ghost use Rattle.disk_files.specs.Moments.{now};
 ghost use Rattle.buffer_state.specs.Steps.{reopened, settled};
 ghost use Rattle.journal_files.specs.Disks.{Keeps, HasNoGap};
@@ -8,7 +9,8 @@ ghost use Rattle.journal_files.specs.Faults.{HasReason};
 ghost use Rattle.journal_files.specs.JournalLogs.{new_generation, state_of};
 ghost use Rattle.journal_files.specs.Openings.{OpensNext, IsFresh, LeavesFolder};
 ghost use Rattle.journal_files.specs.Views.{IsOpenIn, HasShortTags};
-ghost use Rattle.buffer_store.specs.Openings.{IsSet, RefusesOpening, answer_of, left_of};
+ghost use Rattle.buffer_store.specs.Buffers.{Held};
+ghost use Rattle.buffer_store.specs.Openings.{IsSet, RefusesOpening};
 ghost use Rattle.buffer_store.specs.declared.fault.BufferFault.{BufferFault};
 
 use crate::buffer::Buffer;
@@ -49,9 +51,13 @@ impl<D: Dir, A: Allocator + Copy> Buffer<D, A> {
         // A stop at any moment of the call, whatever it answers, leaves a folder that opens to
         // what one before the call could open to.
         ensures leaves { D.is_honest dir
-            → LeavesFolder D.is_honest D.history path.now dir (left_of result) }
-        ensures cause { HasReason (D.fault_count dir) (D.fault_count (left_of result))
-            (answer_of result) BufferFault.Fault }
+            → MatchResult result
+            (λ buffer. LeavesFolder D.is_honest D.history path.now dir buffer.dir)
+            (λ refused. LeavesFolder D.is_honest D.history path.now dir refused.1) }
+        ensures cause { MatchResult result
+            (λ buffer. D.fault_count buffer.dir ≡ D.fault_count dir)
+            (λ refused. HasReason {T = Held D} (D.fault_count dir) (D.fault_count refused.1)
+            (Err refused.0) BufferFault.Fault) }
     {
         let mut dir = dir;
         let start = Snapshot::of(&dir);

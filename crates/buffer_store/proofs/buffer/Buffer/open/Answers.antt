@@ -3,7 +3,7 @@ use Rattle.disk_files.specs.Moments.{now}
 use Rattle.journal_files.specs.Disks.{HasNoGap}
 use Rattle.journal_files.specs.Openings.{OpensNext, IsFresh, LeavesFolder}
 use Rattle.buffer_store.specs.Buffers.{Held}
-use Rattle.buffer_store.proofs.Logs.{reason_ok, reason_opening}
+use Rattle.buffer_store.proofs.Logs.{reason_opening}
 use Rattle.buffer_store.proofs.buffer.Buffer.open.Goals as goal
 
 pub opened-requires-clause-open : goal.opened-requires-clause-open
@@ -48,7 +48,7 @@ returns-in-Ok-clause-leaves g c = λ honest.
 
 pub returns-in-Ok-clause-cause : goal.returns-in-Ok-clause-cause
 returns-in-Ok-clause-cause g c =
-    reason_ok (g.D.Dir.fault_count c.args.dir) (g.D.Dir.fault_count c.opened.result.dir) c.opened.result (ap (λ (b : Held g.row.D.Denot). g.D.Dir.fault_count b.dir) c.opened.ensures ∙ c.in-Ok.ensures.cause.passed)
+    ap (λ (b : Held g.row.D.Denot). g.D.Dir.fault_count b.dir) c.opened.ensures ∙ c.in-Ok.ensures.cause.others (λ q. cc q)
 
 pub returns-in-Err-clause-refused : goal.returns-in-Err-clause-refused
 returns-in-Err-clause-refused g c = record { its = c.in-Err.refused; named = c.from.ensures; why = c.in-Err.ensures.refused }
