@@ -25,12 +25,15 @@ module _ {D : Type 0} (is_honest : D → Type 0) (history : D → History) (log 
     tags = sound.tags;
     durable = λ began. (let k = sound.durable began in record {
       honest = honest k.honest;
-      going = λ on. (let told = k.going on in record {
-        logged = told.logged;
-        holds = record { keeps = kept log.journal (now (history log.dir)) (now (history dir)) told.logged told.holds.keeps (same k.honest); means = told.holds.means };
-        loses = told.loses;
-      });
-      failed = λ fails. absurd (false≢true (sym going ∙ fails));
+      logged = k.logged;
+      more = k.more;
+      told = k.told;
+      could = k.could;
+      means = k.means;
+      loses = k.loses;
+      going = λ on. record { keeps = kept log.journal (now (history log.dir)) (now (history dir)) k.logged (k.going on).keeps (same k.honest); means = k.means };
+      recovers = λ fails. absurd (false≢true (sym going ∙ fails));
+      gap = λ fails. absurd (false≢true (sym going ∙ fails));
     });
   }
 

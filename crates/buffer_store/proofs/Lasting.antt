@@ -21,7 +21,7 @@ use Rattle.journal_files.specs.Disks.{Recovers}
 use Rattle.journal_files.specs.Folders.{OpensWithin}
 use Rattle.journal_files.specs.JournalLogs.{JournalLog, IsJournalLog, state_of, state_at_seal, reopened_at, all_durable, new_generation}
 use Rattle.buffer_store.specs.Buffers.{Held, with_more, durable_if}
-use Rattle.buffer_store.specs.Durability.{MayBeLost, LosesOnly, Lasts, LastsNow, IsDurable, IsLeft, IsNamed, Endures, durably}
+use Rattle.buffer_store.specs.Durability.{MayBeLost, LosesOnly, Lasts, LastsNow, IsDurable, IsNamed, Endures, durably}
 use Rattle.buffer_store.specs.Laws.{QueuedLasts}
 use Rattle.std.proofs.lemmas.Bool.{false≢true}
 use Rattle.std.proofs.lemmas.List.{length-append, take-append-le, take_all}
@@ -402,16 +402,16 @@ lasts_now {D} is_honest history buffer serial durable claimed = by (chunk_at buf
   where
     at : (chunk : Chunk) → chunk_at buffer.chunks serial ≡ Some chunk → chunk.stage ≡ Claimed → (b : Bool) → buffer.failed ≡ b → (folder : Folder) → StopLeaves (now (history buffer.dir)) folder → Lasts buffer.journal.path serial chunk folder
     at chunk there is false going =
-        let k = durable.going going in
-        lasts_of buffer.journal.path (now (history buffer.dir)) buffer.staged k.logged k.logged buffer.chunks serial chunk k.holds.keeps.logged k.holds.keeps.logged refl refl k.loses
-        (recovers buffer.journal (now (history buffer.dir)) k.logged k.holds.keeps) k.holds.means there (ap unclaimed is)
-    at chunk there is true fails = left (durable.failed fails).0 (durable.failed fails).1
+        lasts_of buffer.journal.path (now (history buffer.dir)) buffer.staged durable.logged durable.logged buffer.chunks serial chunk durable.told durable.told refl refl durable.loses
+        (recovers buffer.journal (now (history buffer.dir)) durable.logged (durable.going going).keeps) durable.means there (ap unclaimed is)
+    at chunk there is true fails = left durable.more durable.could (durable.recovers fails)
       where
-        left : (more : Option Record) → IsLeft history buffer more → (folder : Folder) → StopLeaves (now (history buffer.dir)) folder → Lasts buffer.journal.path serial chunk folder
-        left None k =
-            lasts_of buffer.journal.path (now (history buffer.dir)) buffer.staged k.logged k.logged buffer.chunks serial chunk k.told k.told refl refl k.loses k.recovers k.means there (ap unclaimed is)
-        left (Some item) k =
-            lasts_of buffer.journal.path (now (history buffer.dir)) buffer.staged k.logged (with_more (Some item) k.logged) buffer.chunks serial chunk k.told k.could refl (durably_more item k.logged k.told) k.loses k.recovers k.means there (ap unclaimed is)
+        left : (more : Option Record) → IsJournalLog (with_more more durable.logged) → Recovers buffer.journal.path (now (history buffer.dir)) (with_more more durable.logged) → (folder : Folder) → StopLeaves (now (history buffer.dir)) folder
+            → Lasts buffer.journal.path serial chunk folder
+        left None could each =
+            lasts_of buffer.journal.path (now (history buffer.dir)) buffer.staged durable.logged durable.logged buffer.chunks serial chunk durable.told durable.told refl refl durable.loses each durable.means there (ap unclaimed is)
+        left (Some item) could each =
+            lasts_of buffer.journal.path (now (history buffer.dir)) buffer.staged durable.logged (with_more (Some item) durable.logged) buffer.chunks serial chunk durable.told could refl (durably_more item durable.logged durable.told) durable.loses each durable.means there (ap unclaimed is)
 
     by : (o : Option Chunk) → chunk_at buffer.chunks serial ≡ o → IsSomeAnd o (λ chunk. chunk.stage ≡ Claimed) → IfSome o (λ chunk. (folder : Folder) → StopLeaves (now (history buffer.dir)) folder → Lasts buffer.journal.path serial chunk folder)
     by None there is = absurd is
@@ -486,30 +486,26 @@ named_now staged t c serial chunk is lost means there counts =
 endures_at : {D : Type 0} (is_honest : D → Type 0) (history : D → History) (buffer : Held D) (serial : ℕ) (chunk : Chunk) → IsDurable is_honest history buffer → chunk_at buffer.chunks serial ≡ Some chunk → chunk.stage ≡ Claimed → (b : Bool) → buffer.failed ≡ b
     → Endures history buffer serial chunk
 endures_at is_honest history buffer serial chunk durable there is false going =
-    let k = durable.going going in
     record {
-      logged = k.logged;
-      told = k.holds.keeps.logged;
-      named = named_now buffer.staged k.logged buffer.chunks serial chunk k.holds.keeps.logged k.loses k.holds.means there (ap unclaimed is);
-      going = λ _. k.holds;
+      logged = durable.logged;
+      told = durable.told;
+      named = named_now buffer.staged durable.logged buffer.chunks serial chunk durable.told durable.loses durable.means there (ap unclaimed is);
+      going = durable.going;
       failed = λ fails. absurd (false≢true (sym going ∙ fails));
     }
-endures_at is_honest history buffer serial chunk durable there is true fails = left (durable.failed fails).0 (durable.failed fails).1
+endures_at is_honest history buffer serial chunk durable there is true fails = left durable.more durable.could (durable.recovers fails)
   where
-    left : (more : Option Record) → IsLeft history buffer more → Endures history buffer serial chunk
-    left None k = record {
-      logged = k.logged;
-      told = k.told;
-      named = named_now buffer.staged k.logged buffer.chunks serial chunk k.told k.loses k.means there (ap unclaimed is);
+    named : IsNamed serial chunk (durably durable.logged)
+    named = named_now buffer.staged durable.logged buffer.chunks serial chunk durable.told durable.loses durable.means there (ap unclaimed is)
+
+    left : (more : Option Record) → IsJournalLog (with_more more durable.logged) → Recovers buffer.journal.path (now (history buffer.dir)) (with_more more durable.logged) → Endures history buffer serial chunk
+    left None could each = record { logged = durable.logged; told = could; named = named; going = λ going. absurd (false≢true (sym going ∙ fails)); failed = λ _. each }
+    left (Some item) could each = record {
+      logged = begun item durable.logged;
+      told = could;
+      named = subst (IsNamed serial chunk) (sym (durably_more item durable.logged durable.told)) named;
       going = λ going. absurd (false≢true (sym going ∙ fails));
-      failed = λ _. k.recovers;
-    }
-    left (Some item) k = record {
-      logged = begun item k.logged;
-      told = k.could;
-      named = subst (IsNamed serial chunk) (sym (durably_more item k.logged k.told)) (named_now buffer.staged k.logged buffer.chunks serial chunk k.told k.loses k.means there (ap unclaimed is));
-      going = λ going. absurd (false≢true (sym going ∙ fails));
-      failed = λ _. k.recovers;
+      failed = λ _. each;
     }
 
 pub endures_each : {D : Type 0} (is_honest : D → Type 0) (history : D → History) (buffer : Held D) (result : Option ℕ) → IsDurable is_honest history buffer → IfSome result (IsAt Claimed buffer.chunks)

@@ -321,6 +321,21 @@ loses_append staged t serial tag entries h = drop_last true t.durable t.steps (A
 
 -- ---- the buffer stays durable
 
+-- the disk has the journal so, and the device hasn't failed
+durable_on : {D : Type 0} (is_honest : D → Type 0) (history : D → History) (b : Held D) (logged : JournalLog) → is_honest b.dir → HoldsNow history b logged → LosesOnly b.staged logged → b.failed ≡ false → IsDurable is_honest history b
+durable_on is_honest history b logged honest holds loses going = record {
+  honest = honest;
+  logged = logged;
+  more = None;
+  told = holds.keeps.logged;
+  could = holds.keeps.logged;
+  means = holds.means;
+  loses = loses;
+  going = λ _. holds;
+  recovers = λ fails. absurd (false≢true (sym going ∙ fails));
+  gap = λ fails. absurd (false≢true (sym going ∙ fails));
+}
+
 module _ {D T : Type 0} (is_honest : D → Type 0) (history : D → History) (fault_count : D → ℕ) (old new : Held D) (more : Option Record) (answered : JournalLog → JournalLog) where
   -- a buffer that the device failed before refuses the call
   durable_failed : Stays {T = T} is_honest history fault_count old new (Err fault.Failed) → old.failed ≡ true → IsDurable is_honest history old → IsDurable is_honest history new
@@ -328,53 +343,40 @@ module _ {D T : Type 0} (is_honest : D → Type 0) (history : D → History) (fa
       let ne : refusing T fault.Failed ≢ Err fault.Fault = λ q. cc q in
       let disk : SameDisk (now (history new.dir)) (now (history old.dir)) = stays.untouched durable.honest ne (λ q. cc q) in
       let flag : new.failed ≡ true = stays.flags.1 (inl before) in
-      let k = durable.failed before in
       record {
         honest = stays.honest durable.honest;
+        logged = durable.logged;
+        more = durable.more;
+        told = durable.told;
+        could = durable.could;
+        means = durable.means ∙ ap reopened (sym stays.err);
+        loses = subst (λ (b : Bool). LosesOnly b durable.logged) (sym stays.staged) durable.loses;
         going = λ going. absurd (true≢false (sym flag ∙ going));
-        failed = λ _. (
-          k.0,
-          record {
-            logged = k.1.logged;
-            could = k.1.could;
-            told = k.1.told;
-            means = k.1.means ∙ ap reopened (sym stays.err);
-            loses = subst (λ (b : Bool). LosesOnly b k.1.logged) (sym stays.staged) k.1.loses;
-            recovers = subst (λ (p : List ℕ). Recovers p (now (history new.dir)) (with_more k.0 k.1.logged)) (sym stays.path) (recovers_same old.journal.path (with_more k.0 k.1.logged) (now (history old.dir)) (now (history new.dir)) disk k.1.recovers);
-            gap = subst (λ (p : List ℕ). HasNoGap p (now (history new.dir))) (sym stays.path) (same_gap old.journal.path (now (history old.dir)) (now (history new.dir)) disk k.1.gap);
-          },
-        );
+        recovers = λ _. subst (λ (p : List ℕ). Recovers p (now (history new.dir)) (with_more durable.more durable.logged)) (sym stays.path)
+            (recovers_same old.journal.path (with_more durable.more durable.logged) (now (history old.dir)) (now (history new.dir)) disk (durable.recovers before));
+        gap = λ _. subst (λ (p : List ℕ). HasNoGap p (now (history new.dir))) (sym stays.path) (same_gap old.journal.path (now (history old.dir)) (now (history new.dir)) disk (durable.gap before));
       }
 
   durable_ok : (x : T) → Stays is_honest history fault_count old new (Ok x) → Begins history old new more answered (Ok x) → ((t : JournalLog) → LosesOnly old.staged t → LosesOnly new.staged (answered (with_more more t)))
       → old.failed ≡ false → IsDurable is_honest history old → IsDurable is_honest history new
   durable_ok x stays begins loses before durable =
       let flag : new.failed ≡ false = (flags_of old.failed new.failed (Ok x) stays.flags).stays (λ q. cc q) ∙ before in
-      let k = durable.going before in
-      record {
-        honest = stays.honest durable.honest;
-        going = λ _. record { logged = answered (with_more more k.logged); holds = begins.done k.logged k.holds; loses = loses k.logged k.loses };
-        failed = λ fails. absurd (false≢true (sym flag ∙ fails));
-      }
+      durable_on is_honest history new (answered (with_more more durable.logged)) (stays.honest durable.honest) (begins.done durable.logged (durable.going before)) (loses durable.logged durable.loses) flag
 
   durable_fault : Stays {T = T} is_honest history fault_count old new (Err fault.Fault) → Begins {T = T} history old new more answered (Err fault.Fault) → old.failed ≡ false → IsDurable is_honest history old → IsDurable is_honest history new
   durable_fault stays begins before durable =
-      let k = durable.going before in
+      let holds = durable.going before in
       record {
         honest = stays.honest durable.honest;
+        logged = durable.logged;
+        more = more;
+        told = durable.told;
+        could = begins.could durable.logged holds refl;
+        means = durable.means ∙ ap reopened (sym stays.err);
+        loses = subst (λ (b : Bool). LosesOnly b durable.logged) (sym stays.staged) durable.loses;
         going = λ going. absurd (true≢false (sym (stays.flags.1 (inr refl)) ∙ going));
-        failed = λ _. (
-          more,
-          record {
-            logged = k.logged;
-            could = begins.could k.logged k.holds refl;
-            told = k.holds.keeps.logged;
-            means = k.holds.means ∙ ap reopened (sym stays.err);
-            loses = subst (λ (b : Bool). LosesOnly b k.logged) (sym stays.staged) k.loses;
-            recovers = subst (λ (p : List ℕ). Recovers p (now (history new.dir)) (with_more more k.logged)) (sym stays.path) (begins.recovers k.logged k.holds refl);
-            gap = subst (λ (p : List ℕ). HasNoGap p (now (history new.dir))) (sym stays.path) (begins.gap k.logged k.holds refl);
-          },
-        );
+        recovers = λ _. subst (λ (p : List ℕ). Recovers p (now (history new.dir)) (with_more more durable.logged)) (sym stays.path) (begins.recovers durable.logged holds refl);
+        gap = λ _. subst (λ (p : List ℕ). HasNoGap p (now (history new.dir))) (sym stays.path) (begins.gap durable.logged holds refl);
       }
 
   durable_refused : (e : BufferFault) → e ≢ fault.Fault → Stays {T = T} is_honest history fault_count old new (Err e) → Begins {T = T} history old new more answered (Err e) → old.failed ≡ false → IsDurable is_honest history old
@@ -382,12 +384,7 @@ module _ {D T : Type 0} (is_honest : D → Type 0) (history : D → History) (fa
   durable_refused e not stays begins before durable =
       let ne : refusing T e ≢ Err fault.Fault = λ q. not (cc q) in
       let flag : new.failed ≡ false = (flags_of old.failed new.failed (refusing T e) stays.flags).stays ne ∙ before in
-      let k = durable.going before in
-      record {
-        honest = stays.honest durable.honest;
-        going = λ _. record { logged = k.logged; holds = begins.refused k.logged k.holds ne; loses = subst (λ (b : Bool). LosesOnly b k.logged) (sym stays.staged) k.loses };
-        failed = λ fails. absurd (false≢true (sym flag ∙ fails));
-      }
+      durable_on is_honest history new durable.logged (stays.honest durable.honest) (begins.refused durable.logged (durable.going before) ne) (subst (λ (b : Bool). LosesOnly b durable.logged) (sym stays.staged) durable.loses) flag
 
   -- whatever the call answers
   durable_by : (result : Result T BufferFault) → Stays is_honest history fault_count old new result → (is_honest old.dir → Begins history old new more answered result)
@@ -592,21 +589,21 @@ module _ {D : Type 0} (is_honest : D → Type 0) (history : D → History) (faul
 pub durable_same : {D : Type 0} (is_honest : D → Type 0) (history : D → History) (b : Held D) (c : State) → reopened c ≡ reopened b.chunks → IsDurable is_honest history b → IsDurable is_honest history (record b { chunks = c })
 durable_same is_honest history b c counts durable = record {
   honest = durable.honest;
-  going = λ going. (let k = durable.going going in record { logged = k.logged; holds = record { keeps = k.holds.keeps; means = k.holds.means ∙ sym counts }; loses = k.loses });
-  failed = λ fails. (let k = durable.failed fails in (
-    k.0,
-    record { logged = k.1.logged; could = k.1.could; told = k.1.told; means = k.1.means ∙ sym counts; loses = k.1.loses; recovers = k.1.recovers; gap = k.1.gap },
-  ));
+  logged = durable.logged;
+  more = durable.more;
+  told = durable.told;
+  could = durable.could;
+  means = durable.means ∙ sym counts;
+  loses = durable.loses;
+  going = λ going. record { keeps = (durable.going going).keeps; means = durable.means ∙ sym counts };
+  recovers = durable.recovers;
+  gap = durable.gap;
 }
 
 -- ---- a buffer that was just opened
 
 pub durable_new : {D : Type 0} (is_honest : D → Type 0) (history : D → History) (b : Held D) → b.failed ≡ false → is_honest b.dir → HoldsNow history b (new_generation b.chunks) → IsDurable is_honest history b
-durable_new is_honest history b going honest holds = record {
-  honest = honest;
-  going = λ _. record { logged = new_generation b.chunks; holds = holds; loses = tt };
-  failed = λ fails. absurd (false≢true (sym going ∙ fails));
-}
+durable_new is_honest history b going honest holds = durable_on is_honest history b (new_generation b.chunks) honest holds tt going
 
 -- ---- the place of an append
 

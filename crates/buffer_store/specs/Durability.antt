@@ -25,34 +25,24 @@ MayBeLost staged _ = ⊥
 abbrev pub LosesOnly : Bool → JournalLog → Type 0
 LosesOnly staged t = AllByRecursion (MayBeLost staged) (drop t.durable t.steps)
 
--- The disk has the journal of the buffer, it means the chunks, and what a stop may lose of it is
--- only what may be lost.
-pub record IsKept {D : Type 0} (history : D → History) (buffer : Held D) : Type 0 where
-  pub logged : JournalLog
-  pub holds : HoldsNow history buffer logged
-  pub loses : LosesOnly buffer.staged logged
-
--- The device failed the buffer in a call that had begun this step, or none: the steps told before
--- it mean the chunks, claimed ones counted as queued. Each stop leaves those of them that can't be
--- lost, with the one begun or without it. No gap of removed generations is left, so that the folder
--- can be opened at once.
-pub record IsLeft {D : Type 0} (history : D → History) (buffer : Held D)
-    (more : Option Record) : Type 0 where
-  pub logged : JournalLog
-  pub could : IsJournalLog (with_more more logged)
-  pub told : IsJournalLog logged
-  pub means : settled (state_of logged) ≡ reopened buffer.chunks
-  pub loses : LosesOnly buffer.staged logged
-  pub recovers : Recovers buffer.journal.path (now (history buffer.dir)) (with_more more logged)
-  pub gap : HasNoGap buffer.journal.path (now (history buffer.dir))
-
--- The folder is honest; what the disk has of the buffer until the device fails it, and from then
--- on.
+-- The folder is honest. The steps told mean the chunks, claimed ones counted as queued, and what a
+-- stop may lose of them is only what may be lost. Until the device fails the buffer, the disk has its
+-- journal so. The call that it failed in had begun one step more, or none: from then on each stop
+-- leaves the steps that can't be lost, with that one or without it, and no gap of removed generations
+-- is left, so that the folder can be opened at once.
 pub record IsDurable {D : Type 0} (is_honest : D → Type 0) (history : D → History)
     (buffer : Held D) : Type 0 where
   pub honest : is_honest buffer.dir
-  pub going : buffer.failed ≡ false → IsKept history buffer
-  pub failed : buffer.failed ≡ true → (more : Option Record) × IsLeft history buffer more
+  pub logged : JournalLog
+  pub more : Option Record
+  pub told : IsJournalLog logged
+  pub could : IsJournalLog (with_more more logged)
+  pub means : settled (state_of logged) ≡ reopened buffer.chunks
+  pub loses : LosesOnly buffer.staged logged
+  pub going : buffer.failed ≡ false → HoldsNow history buffer logged
+  pub recovers : buffer.failed ≡ true
+      → Recovers buffer.journal.path (now (history buffer.dir)) (with_more more logged)
+  pub gap : buffer.failed ≡ true → HasNoGap buffer.journal.path (now (history buffer.dir))
 
 -- the folder was honest when the buffer was opened, and the generations that were removed of it
 -- left no gap

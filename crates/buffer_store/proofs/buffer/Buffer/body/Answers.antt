@@ -17,7 +17,7 @@ returns-in_err-bytes-clause-undamaged g c = λ began q.
     let told = durable.going (ap (λ (b : Held g.row.D.Denot). b.failed) c.self.view_is ∙ sym c.has_failed.ensures ∙ c.if-has_failed.false) in
     let is : c.from_residual.result ≡ Err c.in_err-bytes.field-0.0 = search rules in
     let same : c.in_err-bytes.field-0.0 ≡ BufferFault.Damaged = cc (is, q) in
-    c.body.ensures.whole durable.honest told.logged told.holds.keeps (c.in_err-bytes.was ∙ ap (λ (e : BufferFault). Err e) same)
+    c.body.ensures.whole durable.honest durable.logged told.keeps (c.in_err-bytes.was ∙ ap (λ (e : BufferFault). Err e) same)
 
 pub returns-then-has_failed-clause-reads : goal.returns-then-has_failed-clause-reads
 returns-then-has_failed-clause-reads g c = reads_none g.D.Dir.is_honest g.D.Dir.history g.D.Dir.fault_count c.args.self.now BufferFault.Failed (λ q. cc q)
@@ -53,8 +53,8 @@ returns-clause-entries g c = λ began.
     let durable = c.self.invariant.durable began0 in
     let told = durable.going (ap (λ (b : Held g.row.D.Denot). b.failed) c.self.view_is ∙ sym c.has_failed.ensures ∙ c.if-has_failed.false) in
     let at : chunk_at c.self.inside.chunks c.args.serial ≡ Some c.in-Some.chunk.now.chunk = sym c.in-Some.ensures.value in
-    let bytes : c.deref.result.now ≡ concat c.in-Some.chunk.now.chunk.entries = c.deref.ensures.value ∙ c.in_ok-bytes.ensures.bytes durable.honest told.logged told.holds.keeps
-    ∙ entries_same told.logged c.self.inside.chunks c.args.serial c.in-Some.chunk.now.chunk at told.holds.means in
+    let bytes : c.deref.result.now ≡ concat c.in-Some.chunk.now.chunk.entries = c.deref.ensures.value ∙ c.in_ok-bytes.ensures.bytes durable.honest durable.logged told.keeps
+    ∙ entries_same durable.logged c.self.inside.chunks c.args.serial c.in-Some.chunk.now.chunk at told.means in
     of_chunk (λ (chunk : Chunk) (entries : List (List ℕ)). entries ≡ chunk.entries) c.entries_of.result (chunk_at c.args.self.now.chunks c.args.serial) c.in-Some.chunk.now.chunk (ap (λ (b : Held g.row.D.Denot). chunk_at b.chunks c.args.serial) (sym c.self.view_is) ∙ at) (c.entries_of.ensures.entries bytes)
 
 pub returns-clause-counted : goal.returns-clause-counted
@@ -69,6 +69,6 @@ returns-clause-undamaged g c = λ began.
     let durable = c.self.invariant.durable began0 in
     let told = durable.going (ap (λ (b : Held g.row.D.Denot). b.failed) c.self.view_is ∙ sym c.has_failed.ensures ∙ c.if-has_failed.false) in
     let at : chunk_at c.self.inside.chunks c.args.serial ≡ Some c.in-Some.chunk.now.chunk = sym c.in-Some.ensures.value in
-    let bytes : c.deref.result.now ≡ concat c.in-Some.chunk.now.chunk.entries = c.deref.ensures.value ∙ c.in_ok-bytes.ensures.bytes durable.honest told.logged told.holds.keeps
-    ∙ entries_same told.logged c.self.inside.chunks c.args.serial c.in-Some.chunk.now.chunk at told.holds.means in
+    let bytes : c.deref.result.now ≡ concat c.in-Some.chunk.now.chunk.entries = c.deref.ensures.value ∙ c.in_ok-bytes.ensures.bytes durable.honest durable.logged told.keeps
+    ∙ entries_same durable.logged c.self.inside.chunks c.args.serial c.in-Some.chunk.now.chunk at told.means in
     c.entries_of.ensures.undamaged bytes

@@ -26,7 +26,7 @@ returns-clause-undamaged g c = λ began.
     let began0 : BeganWell g.D.Dir.is_honest g.D.Dir.history (held_of c.self.inside.log c.self.inside.chunks c.self.inside.settings) = subst (λ (b : Held g.row.D.Denot). BeganWell g.D.Dir.is_honest g.D.Dir.history b) (sym c.self.view_is) began in
     let durable = c.self.invariant.durable began0 in
     let told = durable.going (sym c.has_failed.ensures ∙ c.if-has_failed.false) in
-    c.renew.ensures.whole durable.honest told.logged told.holds.keeps told.holds.means
+    c.renew.ensures.whole durable.honest durable.logged told.keeps told.means
 
 pub returns-then-has_failed-clause-next : goal.returns-then-has_failed-clause-next
 returns-then-has_failed-clause-next g c = record {
@@ -47,6 +47,6 @@ returns-clause-next g c =
       number = r.number;
       gone = r.gone;
       journal = r.journal;
-      left = λ began. (let durable = c.self.invariant.durable began in let told = durable.going (sym c.has_failed.ensures ∙ c.if-has_failed.false) in r.left durable.honest told.logged told.holds.keeps told.holds.means);
+      left = λ began. (let durable = c.self.invariant.durable began in let told = durable.going (sym c.has_failed.ensures ∙ c.if-has_failed.false) in r.left durable.honest durable.logged told.keeps told.means);
       elsewhere = r.elsewhere;
     })
