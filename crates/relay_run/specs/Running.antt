@@ -1,5 +1,6 @@
 -- A relay that runs, and which relay it is.
-use Rattle.std.specs.Prelude.{ℕ, ◌≡◌, All, List, [], ◌∷◌, map, Option, Some, None, Result, Ok, Err, option_map, string_bytes}
+use Rattle.std.specs.Prelude.{ℕ, ◌≡◌, All, List, ◌∷◌, map, slice_get, option_to_list, Option, Some, None, Result, Ok, Err, option_map, string_bytes}
+use Rattle.std.specs.List.{flat_map}
 use Rattle.std.specs.contracts.alloc.Global as heap
 use Rattle.buffer_store.specs.declared.fault.BufferFault.{BufferFault}
 use Rattle.buffer_store.specs.declared.fault.BufferFault.TheVariants as store
@@ -94,9 +95,8 @@ fault_of (Err fault) = Some (ends.Buffer fault)
 
 -- this fault, or else that of the first pool that ended with one
 abbrev pub first_fault : Option LoopFault → List PoolEnded → Option LoopFault
-first_fault (Some fault) pools = Some fault
-first_fault None [] = None
-first_fault None (pool ∷ pools) = first_fault (fault_of pool.done) pools
+first_fault fault pools =
+    slice_get (flat_map option_to_list (fault ∷ map (λ pool. fault_of pool.done) pools)) 0
 
 -- What runs is this relay, whole, with its files in this folder. It takes messages in at the address
 -- of each source of this setup, and nowhere else; it has a buffer for each of the setup's outputs, and
