@@ -7,6 +7,7 @@ use Rattle.std.proofs.lemmas.List.Elements.{All-cons, All-head, All-map, All-nil
 use Rattle.std.specs.Prelude.{map}
 use Rattle.std.specs.List.{All}
 use Rattle.std.specs.contracts.alloc.Global as heap
+use Rattle.relay_conf.specs.declared.relay.Relay.{Relay}
 use Rattle.loop_core.specs.declared.fault.LoopFault.{LoopFault}
 use Rattle.mio_relay.specs.Connections.{ArePortsOf, Served}
 use Rattle.mio_relay.specs.Loops.{BoundState}
@@ -14,8 +15,8 @@ use Rattle.loop_core.specs.Buffers.{AreBuffersOf, ArePlaced}
 use Rattle.loop_core.specs.Folders.{path_for}
 use Rattle.loop_core.specs.Owners.{Owned}
 use Rattle.relay_ports.specs.declared.buffered.BufferedOutput.{BufferedOutput}
-use Rattle.relay_ports.specs.Outputs.{settings_of}
-use Rattle.relay_ports.specs.Setups.{Setup}
+use Rattle.relay_ports.specs.Outputs.{settings_of, outputs_in}
+use Rattle.relay_ports.specs.Setups.{setup_of}
 use Rattle.relay_run.specs.Loops.{Continues, IsCarried, IsOpened, Placed, placed_as, placed_in}
 use Rattle.relay_run.specs.Running.{PoolEnded, PoolState, RelayState, Runs, fault_of, first_fault}
 
@@ -51,17 +52,17 @@ goes_on folder bound relay jobs same ports buffers own placed made carried =
       pools = λ k d lt. (at k d lt, carried k d lt);
     }
 
--- a relay that listens as its setup says, and goes on so, runs as the setup says
-pub runs_as : {folder : List ℕ} {setup : Setup heap.the_row.Denot} {relay : RelayState} → IsOpened folder setup relay → Runs folder setup relay
-runs_as {folder} {setup} {relay} opened =
+-- what listens as a relay's setup says, and goes on so, runs as the relay says
+pub runs_as : {folder : List ℕ} {number : ℕ} {relay : Relay heap.the_row.Denot} {state : RelayState} → IsOpened folder (setup_of number relay) state → Runs folder number relay state
+runs_as {folder} {number} {relay} {state} opened =
     let on = opened.continues in
     let is = opened.is in
     record {
       sources = on.sources ∙ is.sources;
       listens = on.listens ∙ (is.listens ∙ ap (map (λ (s : Served). s.endpoint)) (sym on.sources));
-      ports = subst (λ (s : List Served). ArePortsOf s relay.ports) (sym on.sources) on.ports;
-      buffers = subst (λ (n : ℕ). AreBuffersOf n setup.outputs relay.buffers) is.number
-          (subst (λ (os : List (BufferedOutput heap.the_row.Denot)). AreBuffersOf opened.bound.number os relay.buffers) is.outputs on.buffers);
+      ports = subst (λ (s : List Served). ArePortsOf s state.ports) (sym on.sources) on.ports;
+      buffers = subst (λ (n : ℕ). AreBuffersOf n (outputs_in relay.scopes.items) state.buffers) is.number
+          (subst (λ (os : List (BufferedOutput heap.the_row.Denot)). AreBuffersOf opened.bound.number os state.buffers) is.outputs on.buffers);
       outputs = on.outputs ∙ is.outputs;
       shared = on.shared;
       pools = on.pools;

@@ -5,7 +5,7 @@ use Rattle.loop_core.specs.declared.fault.LoopFault.{LoopFault}
 use Rattle.program_text.specs.declared.status.Status.{Status}
 use Rattle.program_text.specs.declared.status.Status.TheVariants.{Done, Usage}
 use Rattle.program_text.specs.Output.{TakesPart, IsPrinted}
-use Rattle.relay_ports.specs.Setups.{Setup}
+use Rattle.relay_conf.specs.declared.relay.Relay.{Relay}
 use Rattle.relay_run.specs.Running.{RelayState}
 use Rattle.relay_run.specs.Starting.{EndsBy, PrintsEnd, PrintsReady, PrintsRun, fault_line, not_opened, ready_lines}
 use Rattle.program_text.proofs.OutputSteps.{TakesPart-none}
@@ -39,6 +39,6 @@ ended_well relay old new ended ready by none = record {
 }
 
 -- a relay wasn't opened, for this fault
-pub unopened : (folder : List ℕ) (setup : Setup heap.the_row.Denot) (old new : Option (List ℕ)) (fault : LoopFault) (line : List ℕ) (status : Status) → line ≡ fault_line fault
-    → IsPrinted old new line Usage status → PrintsRun folder setup old new status
-unopened folder setup old new fault line status is printed = not_opened fault (subst (λ l. IsPrinted old new l Usage status) is printed)
+pub unopened : (folder : List ℕ) (number : ℕ) (relay : Relay heap.the_row.Denot) (old new : Option (List ℕ)) (fault : LoopFault) (line : List ℕ) (status : Status) → line ≡ fault_line fault
+    → IsPrinted old new line Usage status → PrintsRun folder number relay old new status
+unopened folder number relay old new fault line status is printed = not_opened fault (subst (λ l. IsPrinted old new l Usage status) is printed)

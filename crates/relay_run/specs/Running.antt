@@ -12,12 +12,13 @@ use Rattle.flush_pool.specs.Acts.{at}
 use Rattle.flush_pool.specs.Carriages.{IsStoredFor}
 use Rattle.flush_pool.specs.Rounds.{HaveWorked}
 use Rattle.flush_pool.specs.declared.worked.Worked.{Worked}
+use Rattle.relay_conf.specs.declared.relay.Relay.{Relay}
+use Rattle.route_graph.specs.Table.{table_of}
 use Rattle.loop_core.specs.declared.fault.LoopFault.{LoopFault}
 use Rattle.loop_core.specs.declared.fault.LoopFault.TheVariants as ends
 use Rattle.relay_ports.specs.declared.buffered.BufferedOutput.{BufferedOutput}
 use Rattle.relay_ports.specs.declared.buffered.BufferedOutput.TheVariants.{Forward, File}
-use Rattle.relay_ports.specs.Outputs.{settings_of}
-use Rattle.relay_ports.specs.Setups.{Setup}
+use Rattle.relay_ports.specs.Outputs.{settings_of, outputs_in}
 use Rattle.loop_core.specs.Buffers.{AreBuffersOf}
 use Rattle.loop_core.specs.Folders.{path_for}
 use Rattle.relay_sockets.specs.Endpoints.{Endpoint, Origin}
@@ -98,15 +99,16 @@ abbrev pub first_fault : Option LoopFault → List PoolEnded → Option LoopFaul
 first_fault fault pools =
     slice_get (flat_map option_to_list (fault ∷ map (λ pool. fault_of pool.done) pools)) 0
 
--- What runs is this relay, whole, with its files in this folder. It takes messages in at the address
--- of each source of this setup, and nowhere else; it has a buffer for each of the setup's outputs, and
--- each output has what delivers its chunks, from the very buffer that the loop has for it.
-pub record Runs (folder : List ℕ) (setup : Setup heap.the_row.Denot)
-    (relay : RelayState) : Type 0 where
-  pub sources : relay.sources ≡ map (served_as setup.number setup.table) setup.sources
-  pub listens : relay.bound ≡ map (λ source. source.endpoint) relay.sources
-  pub ports : ArePortsOf relay.sources relay.ports
-  pub buffers : AreBuffersOf setup.number setup.outputs relay.buffers
-  pub outputs : map (λ pool. pool.output) relay.pools ≡ setup.outputs
-  pub shared : map (λ pool. pool.terms) relay.pools ≡ relay.buffers
-  pub pools : All (IsPoolOf folder) relay.pools
+-- What runs is this relay, whole, under this number and with its files in this folder. It takes
+-- messages in at the address of each of its sources, and nowhere else; it has a buffer for each of its
+-- outputs that have one, and each of these has what delivers its chunks, from the very buffer that the
+-- loop has for it.
+pub record Runs (folder : List ℕ) (number : ℕ) (relay : Relay heap.the_row.Denot)
+    (state : RelayState) : Type 0 where
+  pub sources : state.sources ≡ map (served_as number (table_of relay)) relay.sources.items
+  pub listens : state.bound ≡ map (λ source. source.endpoint) state.sources
+  pub ports : ArePortsOf state.sources state.ports
+  pub buffers : AreBuffersOf number (outputs_in relay.scopes.items) state.buffers
+  pub outputs : map (λ pool. pool.output) state.pools ≡ outputs_in relay.scopes.items
+  pub shared : map (λ pool. pool.terms) state.pools ≡ state.buffers
+  pub pools : All (IsPoolOf folder) state.pools

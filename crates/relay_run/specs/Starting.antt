@@ -10,7 +10,6 @@ use Rattle.program_text.specs.declared.status.Status.TheVariants.{Done, Usage}
 use Rattle.program_text.specs.Lines.{line, memory_line}
 use Rattle.program_text.specs.Output.{TakesPart, IsPrinted}
 use Rattle.relay_conf.specs.declared.relay.Relay.{Relay}
-use Rattle.relay_ports.specs.Setups.{Setup, setup_of}
 use Rattle.program_text.specs.Stops.{IsRelayRead, PrintsNoRelay}
 use Rattle.relay_run.specs.Running.{PoolEnded, RelayState, Runs, first_fault}
 
@@ -51,20 +50,20 @@ pub record PrintsEnd (relay : RelayState) (old new : Option (List ℕ))
   pub printed : IsPrinted between new (option_map_or fault_line ended [])
       (option_map_or (λ _. Usage) ended Done) status
 
--- What running the relay of this setup, with its files in this folder, does to a writer: it was
--- opened, and ended so; or it wasn't, and none of its sources is printed, but why.
-pub data PrintsRun (folder : List ℕ) (setup : Setup heap.the_row.Denot)
+-- What running this relay, under this number and with its files in this folder, does to a writer:
+-- it was opened, and ended so; or it wasn't, and none of its sources is printed, but why.
+pub data PrintsRun (folder : List ℕ) (number : ℕ) (relay : Relay heap.the_row.Denot)
     (old new : Option (List ℕ)) (status : Status) : Type 0 where
-  opened : (relay : RelayState) → Runs folder setup relay → PrintsEnd relay old new status
-      → PrintsRun folder setup old new status
+  opened : (state : RelayState) → Runs folder number relay state → PrintsEnd state old new status
+      → PrintsRun folder number relay old new status
   not_opened : (fault : LoopFault) → IsPrinted old new (fault_line fault) Usage status
-      → PrintsRun folder setup old new status
+      → PrintsRun folder number relay old new status
 
 -- All that `relay` does to a writer, and its status: it runs the relay that the configuration
 -- describes, under this number and with its files in this folder, or says why there is none.
 pub data PrintsRelay (folder : List ℕ) (number : ℕ) (conf old new : Option (List ℕ))
     (status : Status) : Type 0 where
   runs : (relay : Relay heap.the_row.Denot) → IsRelayRead conf relay
-      → PrintsRun folder (setup_of number relay) old new status
+      → PrintsRun folder number relay old new status
       → PrintsRelay folder number conf old new status
   refused : PrintsNoRelay conf old new status → PrintsRelay folder number conf old new status

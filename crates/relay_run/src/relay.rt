@@ -99,7 +99,7 @@ where
     // Opens the relay and runs it, and prints what there is to print of it. What else is to be said
     // of it is said meanwhile.
     fn run_read<W: Write>(&self, relay: Relay<Global>, number: u32, out: &mut W) -> Status
-        ensures { PrintsRun self.now (setup_of number relay) (W.contents out.old)
+        ensures { PrintsRun self.now number relay (W.contents out.old)
             (W.contents out.new) result }
     {
         match Voice::start(self.rt, self.home, &relay) {
@@ -116,7 +116,7 @@ where
         voice: Voice,
         out: &mut W,
     ) -> Status
-        ensures { PrintsRun self.now (setup_of number relay) (W.contents out.old)
+        ensures { PrintsRun self.now number relay (W.contents out.old)
             (W.contents out.new) result }
     {
         let status = self.run_with(relay, number, &voice, out);
@@ -132,7 +132,7 @@ where
         voice: &Voice,
         out: &mut W,
     ) -> Status
-        ensures { PrintsRun self.now (setup_of number relay) (W.contents out.old)
+        ensures { PrintsRun self.now number relay (W.contents out.old)
             (W.contents out.new) result }
     {
         match self.open(relay, number, voice) {
