@@ -19,14 +19,10 @@ pub record Served : Type 0 where
   pub entry : Entry
   pub asks : Option Credentials
 
--- the address of a source
-abbrev pub endpoint_of : {A : Type 0} → Source A → Endpoint
-endpoint_of source = record { host = string_bytes source.bind; port = source.port }
-
 -- a source of that relay: it listens at its address, and asks for its key
 abbrev pub served_as : {A : Type 0} → ℕ → Table → Source A → Served
 served_as number table source = record {
-  endpoint = endpoint_of source;
+  endpoint = record { host = string_bytes source.bind; port = source.port };
   entry = record {
     number = number;
     table = table;

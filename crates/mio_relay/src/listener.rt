@@ -1,11 +1,11 @@
 //! What a relay listens on.
 
-ghost use Rattle.std.specs.Prelude.{◌≡◌, ◌++◌, [], ◌∷◌, map, length, slice_get, IfOk, OnOk, IfSome, IsSomeAnd};
+ghost use Rattle.std.specs.Prelude.{◌≡◌, ◌++◌, [], ◌∷◌, map, length, slice_get, string_bytes, IfOk, OnOk, IfSome, IsSomeAnd};
 ghost use Rattle.std.specs.Arc.{arc_value};
 ghost use Rattle.forward_core.specs.Handshakes.{IsHosted};
 ghost use Rattle.forward_core.specs.Credentials.{credentials_in};
 ghost use Rattle.mio_relay.specs.Faults.{of_network};
-ghost use Rattle.mio_relay.specs.Connections.{AreListening, BeginsAt, endpoint_of, served_as, sources_in};
+ghost use Rattle.mio_relay.specs.Connections.{AreListening, BeginsAt, served_as, sources_in};
 
 use forward_core::{Security, security_of};
 use loop_core::{LoopFault, Peer};
@@ -127,7 +127,8 @@ fn listen_at<N: Network, A: Allocator + Copy>(
     source: Source<A>,
 ) -> Result<Listener<N, A>, LoopFault>
     ensures bound { OnOk result
-        (N.bound network.new ≡ N.bound network.old ++ endpoint_of source ∷ []) }
+        (N.bound network.new ≡ N.bound network.old
+        ++ record { host = string_bytes source.bind; port = source.port } ∷ []) }
     ensures number { IfOk result (λ listener. listener.number ≡ length (N.bound network.old)) }
     ensures source { IfOk result
         (λ listener. listener.source ≡ served_as number (arc_value routes.now) source) }

@@ -2,7 +2,7 @@ use Rattle.std.proofs.Common.{◌∙◌, ◌++◌, List, ap, map, sym}
 use Rattle.std.specs.Arc.{arc_value}
 use Rattle.std.specs.Vec.Iter.{into_iter_items}
 use Rattle.std.proofs.lemmas.List.{nil_from_length}
-use Rattle.mio_relay.specs.Connections.{Hosted, Served, endpoint_of, served_as, sources_in}
+use Rattle.mio_relay.specs.Connections.{Hosted, Served, served_as, sources_in}
 use Rattle.mio_relay.proofs.Listening.{none_listens, one_more, moved, moved_all}
 use Rattle.mio_relay.proofs.listener.listen.Goals as goal
 
@@ -20,7 +20,7 @@ loop-source-preserved g c =
     record {
       listening =
           one_more (g.N.Network.bound c.loop-source.network) (g.N.Network.bound c.listen_at.new.network) c.loop-source.listeners.items c.push.new.self.items c.in_ok-listener.listener
-          (endpoint_of c.in-Some.source) c.loop-source.invariant.listening c.in_ok-listener.ensures.bound (sym (ap (λ (s : Served). s.endpoint) c.in_ok-listener.ensures.source))
+          (served c.in-Some.source).endpoint c.loop-source.invariant.listening c.in_ok-listener.ensures.bound (sym (ap (λ (s : Served). s.endpoint) c.in_ok-listener.ensures.source))
           c.in_ok-listener.ensures.number c.in_ok-push.ensures.items;
       sources =
           moved (λ h. h.source) served c.loop-source.listeners.items c.push.new.self.items c.in_ok-listener.listener (into_iter_items c.loop-source.rest) (into_iter_items c.next.new.self)
