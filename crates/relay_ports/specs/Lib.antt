@@ -1,3 +1,4 @@
 pub mod Leaves
 pub mod Outputs
+pub mod Parts
 pub mod Setups

@@ -9,7 +9,6 @@ use Rattle.relay_conf.specs.declared.buffer.BufferSettings.{BufferSettings}
 use Rattle.relay_conf.specs.declared.buffer.OverflowAction.TheVariants.{DropOldestChunk}
 use Rattle.relay_conf.specs.declared.output.Output.{Output}
 use Rattle.relay_conf.specs.declared.output.Output.TheVariants as output
-use Rattle.relay_conf.specs.declared.relay.MatchRule.{MatchRule}
 use Rattle.relay_conf.specs.declared.relay.Scope.{Scope}
 use Rattle.relay_ports.specs.declared.buffered.BufferedOutput.{BufferedOutput}
 use Rattle.relay_ports.specs.declared.buffered.BufferedOutput.TheVariants.{Forward, File}
@@ -30,21 +29,12 @@ buffered (output.Forward settings line) = Some (Forward settings)
 buffered (output.File settings line) = Some (File settings)
 buffered _ = None
 
--- the same as a list
-abbrev pub listed : {A : Type 0} → Output A → List (BufferedOutput A)
-listed found = option_to_list (buffered found)
-
--- the outputs of a match that have buffers, in the order of the text
-abbrev pub of_rule : {A : Type 0} → MatchRule A → List (BufferedOutput A)
-of_rule rule = flat_map listed rule.outputs.items
-
--- those of a scope
-abbrev pub of_scope : {A : Type 0} → Scope A → List (BufferedOutput A)
-of_scope scope = flat_map of_rule scope.matches.items
-
--- those of a relay that has these scopes
+-- the outputs that have buffers of a relay that has these scopes, in the order of the text
 abbrev pub outputs_in : {A : Type 0} → List (Scope A) → List (BufferedOutput A)
-outputs_in scopes = flat_map of_scope scopes
+outputs_in scopes =
+    flat_map (λ scope.
+    flat_map (λ rule. flat_map (λ found. option_to_list (buffered found)) rule.outputs.items)
+    scope.matches.items) scopes
 
 -- each output has the number of its place
 abbrev pub AreInOrder : {A : Type 0} → List (BufferedOutput A) → Type 0

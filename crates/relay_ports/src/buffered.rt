@@ -4,14 +4,12 @@ ghost use Rattle.std.specs.Prelude.{◌≡◌, ◌++◌, IfOk, OnOk};
 ghost use Rattle.std.specs.List.{flat_map};
 ghost use Rattle.relay_ports.specs.Outputs.{
   buffered as as_buffered,
-  listed,
   number_of,
-  of_rule,
-  of_scope,
   outputs_in,
   settings_of,
   AreTakesOf,
 };
+ghost use Rattle.relay_ports.specs.Parts.{listed, of_rule, of_scope};
 
 use ack_receipt::{Basis, Takes};
 use relay_conf::{

@@ -2,7 +2,7 @@ use Rattle.std.proofs.Common.{◌++◌, ◌∙◌, sym}
 use Rattle.std.proofs.lemmas.List.{nil_from_length}
 use Rattle.std.specs.List.{flat_map}
 use Rattle.std.specs.Vec.Iter.{into_iter_items}
-use Rattle.relay_ports.specs.Outputs.{of_scope}
+use Rattle.relay_ports.specs.Parts.{of_scope}
 use Rattle.relay_ports.proofs.Spreading.{spread, spread_whole}
 use Rattle.relay_ports.proofs.buffered.buffered_outputs.Goals as goal
 

@@ -1,7 +1,7 @@
 use Rattle.std.proofs.Common.{◌≡◌, ◌++◌}
 use Rattle.std.specs.List.{flat_map}
 use Rattle.std.specs.Vec.Iter.{into_iter_items, into_iter_len}
-use Rattle.relay_ports.specs.Outputs.{of_scope}
+use Rattle.relay_ports.specs.Parts.{of_scope}
 use Rattle.relay_ports.proofs.buffered.buffered_outputs.Given as goal
 
 abbrev pub invariant-loop-scope : goal.invariant-loop-scope
