@@ -1,5 +1,5 @@
 -- A host name and a key, as a configuration has them, and as a handshake shows them.
-use Rattle.std.specs.Prelude.{ℕ, ◌<◌, List, length, Option, Some, None, IsSomeAnd, string_bytes}
+use Rattle.std.specs.Prelude.{ℕ, ◌<◌, List, length, Option, Some, None, IsSomeAnd, option_map, string_bytes}
 use Rattle.auth_handshake.specs.Ends.{longest_host}
 use Rattle.relay_conf.specs.declared.relay.Security.{Security as Secret}
 use Rattle.forward_core.specs.declared.security.Security.{Security}
@@ -11,9 +11,9 @@ pub record Credentials : Type 0 where
 
 -- those of a configuration, if it has some
 abbrev pub credentials_of : {A : Type 0} → Option (Secret A) → Option Credentials
-credentials_of None = None
-credentials_of (Some secret) =
-    Some (record { host = string_bytes secret.self_hostname; key = string_bytes secret.shared_key })
+credentials_of secret =
+    option_map (λ one.
+    record { host = string_bytes one.self_hostname; key = string_bytes one.shared_key }) secret
 
 -- those that a handshake shows, if there is one
 abbrev pub credentials_in : Option Security → Option Credentials
