@@ -2,6 +2,7 @@
 use Rattle.std.specs.Prelude.{Option, Some, None}
 use Rattle.std.proofs.Common.{◌≡◌, ℕ, ◌+◌, ◌-◌, ◌*◌, ◌^◌, ◌<◌, inl, inr, Bool, true, false, length, get_or, take, nat_lt, List, [], ◌∷◌, ◌++◌, sym, ap, arith, ◌∙◌, refl}
 use Rattle.std.specs.List.{list_all}
+use Rattle.std.specs.Option.{option_and_then, option_map_or}
 use Rattle.std.specs.Char.{is_ascii_digit}
 use Rattle.std.proofs.lemmas.Bool.Decides.{nat_tests}
 use Rattle.std.proofs.lemmas.Option.{cond_some, none-some}
@@ -12,7 +13,7 @@ use Rattle.std.proofs.Math.Seq.{take-append_seam, get_or-append_seam}
 use Rattle.conf_values.specs.declared.amount.Units.{Units}
 use Rattle.conf_values.specs.declared.amount.Units.TheVariants as units
 use Rattle.conf_values.specs.Numbers.{fitting, is_digits, decimal, number_of}
-use Rattle.conf_values.specs.Amounts.{size_factor, time_factor, factor_of, times, scaled, amount_of}
+use Rattle.conf_values.specs.Amounts.{size_factor, time_factor, factor_of, amount_of}
 use Rattle.conf_values.specs.Laws.{IsPlain, IsScaled, IsAmount}
 use Rattle.conf_values.proofs.Numbers.{spelled}
 
@@ -84,7 +85,7 @@ in_two text some =
 
 -- a value is an amount's
 module _ (factor : ℕ → Option ℕ) (text : List ℕ) (n : ℕ) where
-  scaled_from : (f : ℕ) → factor (get_or text (length text - 1) 0) ≡ Some f → (o : Option ℕ) → number_of (take (length text - 1) text) ≡ o → times f o ≡ Some n → IsAmount factor text n × (n < 2 ^ 64)
+  scaled_from : (f : ℕ) → factor (get_or text (length text - 1) 0) ≡ Some f → (o : Option ℕ) → number_of (take (length text - 1) text) ≡ o → option_and_then (λ m. fitting (m * f)) o ≡ Some n → IsAmount factor text n × (n < 2 ^ 64)
   scaled_from f is None e h = absurd (none-some n h)
   scaled_from f is (Some m) e h =
       let r = is_fitting (m * f) n h in
@@ -92,7 +93,7 @@ module _ (factor : ℕ → Option ℕ) (text : List ℕ) (n : ℕ) where
       let some = some_digits (take (length text - 1) text) d.0 in
       (inr (record { digits = take (length text - 1) text; letter = get_or text (length text - 1) 0; factor = f; text_is = in_two text (omega (arith, length-take (length text - 1) text)); are_digits = d.0; factor_is = is; value_is = ap (λ v. v * f) d.1 ∙ r.0 }), r.1)
 
-  from : (o : Option ℕ) → factor (get_or text (length text - 1) 0) ≡ o → scaled o text ≡ Some n → IsAmount factor text n × (n < 2 ^ 64)
+  from : (o : Option ℕ) → factor (get_or text (length text - 1) 0) ≡ o → option_map_or (λ f. option_and_then (λ m. fitting (m * f)) (number_of (take (length text - 1) text))) o (number_of text) ≡ Some n → IsAmount factor text n × (n < 2 ^ 64)
   from None is h = let d = number_is text n h in (inl (d.0, d.1), d.2)
   from (Some f) is h = scaled_from f is _ refl h
 

@@ -1,5 +1,6 @@
 -- Numbers with a unit's letter behind them.
 use Rattle.std.specs.Prelude.{ℕ, ◌-◌, ◌*◌, ◌^◌, ◌||◌, ◌==◌, List, length, take, slice_index, Option, Some, None, if◌then◌else◌}
+use Rattle.std.specs.Option.{option_and_then, option_map_or}
 use Rattle.conf_values.specs.declared.amount.Units.{Units}
 use Rattle.conf_values.specs.declared.amount.Units.TheVariants as units
 use Rattle.conf_values.specs.Numbers.{fitting, number_of}
@@ -27,20 +28,11 @@ abbrev pub factor_of : Units → ℕ → Option ℕ
 factor_of units.Sizes letter = size_factor letter
 factor_of units.Times letter = time_factor letter
 
--- a number times a factor, where that is below 2 to the 64th
-abbrev pub times : ℕ → Option ℕ → Option ℕ
-times factor None = None
-times factor (Some n) = fitting (n * factor)
-
--- the number in front of a letter with this factor, or of the whole text where its last byte has
--- none
-abbrev pub scaled : Option ℕ → List ℕ → Option ℕ
-scaled None text = number_of text
-scaled (Some factor) text = times factor (number_of (take (length text - 1) text))
-
 -- the value of digits, or of digits and one unit's letter, where it is below 2 to the 64th
 unfoldable pub amount_of : (ℕ → Option ℕ) → List ℕ → Option ℕ
-amount_of factor text = scaled (factor (slice_index text (length text - 1))) text
+amount_of factor text = option_map_or
+    (λ by. option_and_then (λ n. fitting (n * by)) (number_of (take (length text - 1) text)))
+    (factor (slice_index text (length text - 1))) (number_of text)
 
 -- the bytes of a size
 abbrev pub size_of : List ℕ → Option ℕ
