@@ -5,8 +5,8 @@ use Rattle.std.proofs.lemmas.Bool.{cases_lt}
 use Rattle.std.proofs.lemmas.List.{get_or-map, get_or_append_left, get_or-append_right, length-map, map-append}
 use Rattle.std.proofs.lemmas.Nat.{div_below}
 use Rattle.std.proofs.Math.Nat.{div-eq_of_lt, mod-eq_of_lt, add-mod_left, add-div_left, mul-div_cancel_left, mod-lt}
-use Rattle.tag_pattern.specs.Cuts.{choices_in, BeginsWithSlot, SpellsRest}
-use Rattle.tag_pattern.specs.Grammar.{Slot, IsPatternText, choices, comma, expansions, part_item}
+use Rattle.tag_pattern.specs.Cuts.{choices_in, BeginsWithSlot, SpellsRest, comma}
+use Rattle.tag_pattern.specs.Grammar.{Slot, IsPatternText, choices, expansions, part_item}
 use Rattle.tag_pattern.specs.Items.{Item}
 use Rattle.tag_pattern.specs.Parts.{parts_of}
 use Rattle.tag_pattern.proofs.Sizes.{length-products, rest_some}

@@ -6,8 +6,8 @@ use Rattle.std.proofs.lemmas.Bool.{or_cases, or_left, or_right, and_parts, and_f
 use Rattle.std.proofs.lemmas.List.{length-map}
 use Rattle.std.proofs.Math.Nat.{mul-pos, mul_assoc, le-mul_of_pos_right}
 use Rattle.std.proofs.lemmas.Slice.Eq.{bytes_eq-Decides}
-use Rattle.tag_pattern.specs.Cuts.{choices_in, is_partial, most_parts, SpellsRest}
-use Rattle.tag_pattern.specs.Grammar.{Slot, Part, Group, AnyByRecursion, AreTooMany, HasPartialWildcard, IsPartialWildcard, IsSlot, IsPatternText, choices, expansions, star}
+use Rattle.tag_pattern.specs.Cuts.{choices_in, is_partial, most_parts, SpellsRest, star}
+use Rattle.tag_pattern.specs.Grammar.{Slot, Part, Group, AnyByRecursion, AreTooMany, HasPartialWildcard, IsPartialWildcard, IsSlot, IsPatternText, choices, expansions}
 use Rattle.tag_pattern.specs.Survey.{Grows, IsSizeBefore, IsSurveyed, longest}
 use Rattle.tag_pattern.specs.declared.survey.Size.{Size}
 use Rattle.tag_pattern.proofs.SlotCuts.{all_append}

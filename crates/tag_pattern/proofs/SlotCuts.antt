@@ -4,8 +4,8 @@ use Rattle.std.specs.List.{AllByRecursion, list_any, onto_first, join_with_byte}
 use Rattle.std.proofs.lemmas.Bool.{cases_eq, eq-eqb, ne_eqb, eqb-true, eqb-false, false≢true, or_parts, or_from, or_left}
 use Rattle.std.proofs.lemmas.List.{append-nil, nil_from_length}
 use Rattle.std.proofs.lemmas.List.Splits.{slice_split-cons_yes, slice_split-cons_no, join_with_byte-slice_split}
-use Rattle.tag_pattern.specs.Cuts.{is_among, is_nil, choices_in, BeginsWith, BeginsWithSlot, EndsSlot, HasSlotFirst, IsBody, IsCut, IsGroup}
-use Rattle.tag_pattern.specs.Grammar.{Slot, Part, Group, IsAlternative, IsPartText, IsSlot, IsPatternText, slot_text, comma, open_brace, close_brace}
+use Rattle.tag_pattern.specs.Cuts.{is_among, is_nil, choices_in, BeginsWith, BeginsWithSlot, EndsSlot, HasSlotFirst, IsBody, IsCut, IsGroup, comma, open_brace, close_brace}
+use Rattle.tag_pattern.specs.Grammar.{Slot, Part, Group, IsAlternative, IsPartText, IsSlot, IsPatternText, slot_text}
 use Rattle.tag_pattern.specs.Parts.{dot, parts_of}
 use Rattle.tag_pattern.proofs.Splits.{HasNo, pieces, pieces_lack, pieces_some, pieces_last, pieces-join, same_cut}
 

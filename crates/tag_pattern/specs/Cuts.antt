@@ -2,8 +2,24 @@
 use Rattle.std.specs.Prelude.{◌≡◌, ℕ, ◌<◌, ◌==◌, Bool, true, false, not, ◌&&◌, List, [], ◌∷◌, ◌++◌, length, map, max, Option, Some, None, IfSome}
 use Rattle.std.specs.List.{AllByRecursion, list_any, slice_split}
 use Rattle.std.specs.Str.{bytes_eq}
-use Rattle.tag_pattern.specs.Grammar.{Slot, IsSlot, IsPatternText, choices, slot_text, comma, star, open_brace, close_brace}
+use Rattle.tag_pattern.specs.Grammar.{Slot, IsSlot, IsPatternText, choices, slot_text}
 use Rattle.tag_pattern.specs.Parts.{dot, parts_of}
+
+-- the code of `*`
+abbrev pub star : ℕ
+star = 42
+
+-- the code of `,`
+abbrev pub comma : ℕ
+comma = 44
+
+-- the code of `{`
+abbrev pub open_brace : ℕ
+open_brace = 123
+
+-- the code of `}`
+abbrev pub close_brace : ℕ
+close_brace = 125
 
 -- the byte is one of the marks
 abbrev pub is_among : List ℕ → ℕ → Bool

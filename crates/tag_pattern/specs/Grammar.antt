@@ -2,33 +2,16 @@
 -- That a group stands for each of its alternatives is Fluentd's ("Config File Syntax", "How Do
 -- Match Patterns Work?"); where groups may stand, and the order of the plain patterns, are chosen
 -- here.
-use Rattle.std.specs.Prelude.{◌≡◌, ◌≢◌, ℕ, ◌<◌, ◌⊎◌, List, [], ◌∷◌, ◌++◌, length, map, if◌then◌else◌}
+use Rattle.std.specs.Prelude.{◌≡◌, ◌≢◌, ℕ, ◌<◌, ◌⊎◌, List, [], ◌∷◌, ◌++◌, length, map, codes, if◌then◌else◌}
 use Rattle.std.specs.List.{AllByRecursion, flat_map, join_with_byte}
 use Rattle.std.specs.Str.{bytes_eq}
 use Rattle.tag_pattern.specs.Items.{Item}
 use Rattle.tag_pattern.specs.Parts.{dot}
 use Rattle.tag_pattern.specs.declared.item.PatternItem.TheVariants.{Literal, AnyPart, AnyParts}
 
--- the codes of `*`, `,`, `{` and `}`
-abbrev pub star : ℕ
-star = 42
-
--- the code of `,`
-abbrev pub comma : ℕ
-comma = 44
-
--- the code of `{`
-abbrev pub open_brace : ℕ
-open_brace = 123
-
--- the code of `}`
-abbrev pub close_brace : ℕ
-close_brace = 125
-
 -- a part's text has no dot, comma or brace
 abbrev pub IsPartText : List ℕ → Type 0
-IsPartText part = AllByRecursion (λ b. (b ≢ dot) × (b ≢ comma) × (b ≢ open_brace)
-    × (b ≢ close_brace)) part
+IsPartText part = AllByRecursion (λ b. (b ≢ dot) × (b ≢ 44) × (b ≢ 123) × (b ≢ 125)) part
 
 -- What stands between the dots of a pattern: a part, or a group of alternatives, each of one or
 -- more parts.
@@ -50,7 +33,7 @@ IsSlot (Group alternatives) = (alternatives ≢ []) × AllByRecursion IsAlternat
 abbrev pub slot_text : Slot → List ℕ
 slot_text (Part text) = text
 slot_text (Group alternatives) =
-    open_brace ∷ join_with_byte comma (map (join_with_byte dot) alternatives) ++ close_brace ∷ []
+    codes "{" ++ join_with_byte 44 (map (join_with_byte dot) alternatives) ++ codes "}"
 
 -- A pattern's text is that of a slot, or of a slot, a dot and the text of the slots behind it.
 abbrev pub IsPatternText : List Slot → List ℕ → Type 0
@@ -73,8 +56,8 @@ expansions (slot ∷ slots) = flat_map (λ front. map (λ back. front ++ back) (
 
 -- the item that a part's text spells
 abbrev pub part_item : List ℕ → Item
-part_item text = if bytes_eq text (star ∷ []) then AnyPart
-    else (if bytes_eq text (star ∷ star ∷ []) then AnyParts else Literal text)
+part_item text = if bytes_eq text (codes "*") then AnyPart
+    else (if bytes_eq text (codes "**") then AnyParts else Literal text)
 
 -- the plain patterns for which the slots stand
 abbrev pub plain_patterns : List Slot → List (List Item)
@@ -87,8 +70,8 @@ AnyByRecursion P (x ∷ xs) = P x ⊎ AnyByRecursion P xs
 
 -- a part with a `*` in it that is neither `*` nor `**`
 abbrev pub IsPartialWildcard : List ℕ → Type 0
-IsPartialWildcard part = AnyByRecursion (λ b. b ≡ star) part × (part ≢ star ∷ [])
-    × (part ≢ star ∷ star ∷ [])
+IsPartialWildcard part = AnyByRecursion (λ b. b ≡ 42) part × (part ≢ codes "*")
+    × (part ≢ codes "**")
 
 -- such a part stands in some choice of some slot
 abbrev pub HasPartialWildcard : List Slot → Type 0

@@ -1,9 +1,10 @@
 -- What a source may put in front of the tags that enter there: a prefix, and a dot. All of this is
 -- chosen here.
-use Rattle.std.specs.Prelude.{ℕ, ◌==◌, Bool, ◌&&◌, ◌||◌, ◌↔◌, List, ◌∷◌, ◌++◌, length, map, Option, Some, None}
+use Rattle.std.specs.Prelude.{ℕ, ◌==◌, Bool, ◌&&◌, ◌||◌, ◌↔◌, List, ◌∷◌, ◌++◌, length, map, Option}
 use Rattle.std.specs.Char.{is_ascii_alphanumeric}
 use Rattle.std.specs.Int.{is_in_range}
 use Rattle.std.specs.List.{list_all}
+use Rattle.std.specs.Option.{option_map_or}
 use Rattle.tag_pattern.specs.Items.{Item}
 use Rattle.tag_pattern.specs.Parts.{dot, parts_of}
 use Rattle.tag_pattern.specs.Patterns.{IsTagOf}
@@ -27,13 +28,12 @@ prefixed_items prefix pattern = map Literal (parts_of prefix) ++ pattern
 
 -- the tag as it is where this prefix, if there is one, is put in front
 abbrev pub entered_tag : Option (List ℕ) → List ℕ → List ℕ
-entered_tag None tag = tag
-entered_tag (Some prefix) tag = prefixed_tag prefix tag
+entered_tag prefix tag = option_map_or (λ text. text ++ dot ∷ tag) prefix tag
 
--- the same of a pattern
+-- the same of a pattern, with the prefix's parts in front, each as a literal
 abbrev pub entered_items : Option (List ℕ) → List Item → List Item
-entered_items None pattern = pattern
-entered_items (Some prefix) pattern = prefixed_items prefix pattern
+entered_items prefix pattern =
+    option_map_or (λ text. map Literal (parts_of text) ++ pattern) prefix pattern
 
 -- A tag is one of the pattern's exactly where the prefixed tag is one of the prefixed pattern's.
 abbrev pub IsSameBehind : List ℕ → List Item → List Item → Type 0

@@ -1,7 +1,6 @@
 use Rattle.std.proofs.Common.{◌≡◌, map, max}
 use Rattle.std.specs.Option.{option_copied}
-use Rattle.tag_pattern.specs.Cuts.{choices_in, most_parts, pieces_behind}
-use Rattle.tag_pattern.specs.Grammar.{comma}
+use Rattle.tag_pattern.specs.Cuts.{choices_in, most_parts, pieces_behind, comma}
 use Rattle.tag_pattern.specs.Parts.{parts_of}
 use Rattle.tag_pattern.proofs.CutSteps.{left}
 use Rattle.tag_pattern.proofs.alternatives.most_parts.Given as goal

@@ -1,8 +1,7 @@
 use Rattle.std.proofs.Common.{◌≡◌, map}
 use Rattle.std.specs.List.{list_any}
 use Rattle.std.specs.Option.{option_copied}
-use Rattle.tag_pattern.specs.Cuts.{choices_in, is_partial, pieces_behind}
-use Rattle.tag_pattern.specs.Grammar.{comma}
+use Rattle.tag_pattern.specs.Cuts.{choices_in, is_partial, pieces_behind, comma}
 use Rattle.tag_pattern.specs.Parts.{parts_of}
 use Rattle.tag_pattern.proofs.CutSteps.{left}
 use Rattle.tag_pattern.proofs.alternatives.slot_is_partial.Given as goal

@@ -1,7 +1,7 @@
 use Rattle.std.proofs.Common.{◌<◌, arith}
 use Rattle.std.proofs.Math.Nat.{mul-pos}
 use Rattle.tag_pattern.proofs.Splits.{pieces_length}
-use Rattle.tag_pattern.specs.Grammar.{comma}
+use Rattle.tag_pattern.specs.Cuts.{comma}
 use Rattle.tag_pattern.proofs.survey.grown.Goals as goal
 
 pub returns-clause-within : goal.returns-clause-within
