@@ -1,5 +1,6 @@
 -- What a text in quotes spells, from its front.
 use Rattle.std.proofs.Common.{◌≡◌, ◌≢◌, ℕ, suc, add-zero, ◌+◌, ◌<◌, Bool, true, false, cond, eqb, not, List, [], ◌∷◌, ◌++◌, length, get_or, drop, take, inl, inr, refl, sym, ap, ◌∙◌, append_assoc, Option, Some, None, arith}
+use Rattle.std.specs.Option.{option_and_then}
 use Rattle.std.specs.List.{position_or_len}
 use Rattle.std.proofs.lemmas.Bool.{cases_lt}
 use Rattle.std.proofs.lemmas.Bool.Decides.{nat_tests}
@@ -7,7 +8,8 @@ use Rattle.std.proofs.lemmas.List.{get_or-drop, length-drop}
 use Rattle.std.proofs.lemmas.List.Sums.{passes_at_first, prefix_len-le-length}
 use Rattle.std.specs.Str.{IsCharBoundary}
 use Rattle.conf_text.proofs.Cuts.{cut_before}
-use Rattle.conf_text.specs.Quoted.{escape, embeds, with_front, with_escape, quoted, is_special}
+use Rattle.conf_text.specs.Quoted.{escape, embeds, with_byte, quoted, is_special}
+use Rattle.conf_text.specs.Special.{with_front}
 
 pub is_other : (a b : ℕ) → a ≢ b → eqb a b ≡ false
 is_other a b ne = grind (arith, nat_tests)
@@ -51,7 +53,7 @@ quoted_one mark [] len e = absurd (omega arith)
 quoted_one mark (b ∷ []) len e = rw e refl
 quoted_one mark (b ∷ c ∷ bs) len e = absurd (omega arith)
 
-pub quoted_escape : (mark : ℕ) (bs : List ℕ) → 1 < length bs → eqb (get_or bs 0 0) mark ≡ false → eqb (get_or bs 0 0) 92 ≡ true → quoted mark bs ≡ with_escape (escape mark (get_or bs 1 0)) (quoted mark (drop 2 bs))
+pub quoted_escape : (mark : ℕ) (bs : List ℕ) → 1 < length bs → eqb (get_or bs 0 0) mark ≡ false → eqb (get_or bs 0 0) 92 ≡ true → quoted mark bs ≡ option_and_then (λ e. with_byte e (quoted mark (drop 2 bs))) (escape mark (get_or bs 1 0))
 unfolding quoted
 quoted_escape mark [] lt e h = absurd (omega arith)
 quoted_escape mark (b ∷ []) lt e h = absurd (omega arith)

@@ -1,19 +1,20 @@
 -- What is written between quotes is read back.
 use Rattle.std.proofs.Common.{◌≡◌, ℕ, ◌<◌, Bool, true, false, cond, eqb, ◌&&◌, ◌||◌, List, [], ◌∷◌, ◌++◌, length, get_or, Option, Some, refl, ap, ◌∙◌, append_assoc, length-append, arith}
 use Rattle.std.specs.List.{flat_map}
+use Rattle.std.specs.Option.{option_and_then}
 use Rattle.std.proofs.lemmas.Bool.{eqb-true, false≢true}
 use Rattle.std.proofs.lemmas.Bool.Decides.{nat_tests}
-use Rattle.conf_text.specs.Quoted.{quoted, escape, single_escape, double_escape, embeds, with_front, with_escape}
+use Rattle.conf_text.specs.Quoted.{quoted, escape, single_escape, double_escape, embeds, with_byte}
 use Rattle.conf_text.specs.Laws.{in_single, in_double, HasNoCode, SingleQuotesKeep, DoubleQuotesKeep}
 use Rattle.conf_text.proofs.Quotes.{quoted_close, quoted_escape, quoted_stands}
 
 -- a byte that is spelled by two, and one that is spelled by itself
 two_bytes : (mark c b : ℕ) (value rest behind : List ℕ) → eqb 92 mark ≡ false → escape mark c ≡ Some b → quoted mark rest ≡ Some (value, behind) → quoted mark (92 ∷ c ∷ rest) ≡ Some (b ∷ value, behind)
 two_bytes mark c b value rest behind other e h =
-    quoted_escape mark (92 ∷ c ∷ rest) (omega arith) other refl ∙ ap (λ (o : Option ℕ). with_escape o (quoted mark rest)) e ∙ ap (λ r. with_front (b ∷ []) r) h
+    quoted_escape mark (92 ∷ c ∷ rest) (omega arith) other refl ∙ ap (λ (o : Option ℕ). option_and_then (λ x. with_byte x (quoted mark rest)) o) e ∙ ap (λ r. with_byte b r) h
 
 one_byte : (mark b : ℕ) (value rest behind : List ℕ) → 0 < length rest → eqb b mark ≡ false → eqb b 92 ≡ false → embeds mark b (get_or rest 0 0) ≡ false → quoted mark rest ≡ Some (value, behind) → quoted mark (b ∷ rest) ≡ Some (b ∷ value, behind)
-one_byte mark b value rest behind some m s e h = quoted_stands mark (b ∷ rest) (omega arith) m s e ∙ ap (λ r. with_front (b ∷ []) r) h
+one_byte mark b value rest behind some m s e h = quoted_stands mark (b ∷ rest) (omega arith) m s e ∙ ap (λ r. with_byte b r) h
 
 -- ---- single quotes
 

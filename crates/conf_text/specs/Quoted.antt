@@ -1,6 +1,6 @@
 -- Values in quotes (Fluentd, "Config File Syntax"). That other escapes and embedded code are
 -- refused is chosen here.
-use Rattle.std.specs.Prelude.{ℕ, Bool, ◌&&◌, ◌||◌, List, [], ◌∷◌, ◌++◌, Option, Some, None, ◌==◌, if◌then◌else◌}
+use Rattle.std.specs.Prelude.{ℕ, Bool, ◌&&◌, ◌||◌, List, [], ◌∷◌, Option, Some, None, option_map, option_and_then, ◌==◌, if◌then◌else◌}
 
 -- what a byte behind `\` stands for between double quotes: `\\`, `\"`, `\n`, `\r`, `\t`
 abbrev pub double_escape : ℕ → Option ℕ
@@ -21,15 +21,9 @@ escape mark b = if mark == 34 then double_escape b else single_escape b
 abbrev pub embeds : ℕ → ℕ → ℕ → Bool
 embeds mark b c = mark == 34 && (b == 35 && c == 123)
 
--- a value with a front, and the text behind its closing mark
-abbrev pub with_front : List ℕ → Option (List ℕ × List ℕ) → Option (List ℕ × List ℕ)
-with_front front None = None
-with_front front (Some found) = Some (front ++ found.0, found.1)
-
--- the byte that an escape stands for, before the rest of the value
-abbrev pub with_escape : Option ℕ → Option (List ℕ × List ℕ) → Option (List ℕ × List ℕ)
-with_escape None read = None
-with_escape (Some b) read = with_front (b ∷ []) read
+-- a value with one byte more in front, and the text behind its closing mark
+abbrev pub with_byte : ℕ → Option (List ℕ × List ℕ) → Option (List ℕ × List ℕ)
+with_byte b read = option_map (λ found. (b ∷ found.0, found.1)) read
 
 -- The value that a text behind its opening mark spells, and the text behind the closing mark.
 -- None: the mark never closes, an escape is none of the listed ones, or code is embedded.
@@ -37,8 +31,8 @@ unfoldable pub quoted : ℕ → List ℕ → Option (List ℕ × List ℕ)
 quoted mark [] = None
 quoted mark (b ∷ []) = if b == mark then Some ([], []) else None
 quoted mark (b ∷ c ∷ rest) = if b == mark then Some ([], c ∷ rest)
-    else (if b == 92 then with_escape (escape mark c) (quoted mark rest)
-    else (if embeds mark b c then None else with_front (b ∷ []) (quoted mark (c ∷ rest))))
+    else (if b == 92 then option_and_then (λ e. with_byte e (quoted mark rest)) (escape mark c)
+    else (if embeds mark b c then None else with_byte b (quoted mark (c ∷ rest))))
 
 -- a byte that may do more than stand for itself
 abbrev pub is_special : ℕ → ℕ → Bool

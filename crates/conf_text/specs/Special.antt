@@ -1,9 +1,13 @@
 -- What the front of a text in quotes is, where no byte stands that is only itself.
-use Rattle.std.specs.Prelude.{◌≡◌, ℕ, ◌-◌, ◌<◌, ◌≤◌, List, [], ◌∷◌, length, drop, slice_index, Some, None}
+use Rattle.std.specs.Prelude.{◌≡◌, ℕ, ◌-◌, ◌<◌, ◌≤◌, List, [], ◌∷◌, ◌++◌, length, drop, slice_index, Option, Some, None, option_map}
 use Rattle.conf_text.specs.declared.quoted.Special.{Special}
 use Rattle.conf_text.specs.declared.quoted.Special.TheVariants.{Close, Stands, Bad}
 use Rattle.conf_text.specs.declared.quoted.Piece.{Piece}
-use Rattle.conf_text.specs.Quoted.{quoted, with_front}
+use Rattle.conf_text.specs.Quoted.{quoted}
+
+-- a value with a front, and the text behind its closing mark
+abbrev pub with_front : List ℕ → Option (List ℕ × List ℕ) → Option (List ℕ × List ℕ)
+with_front front read = option_map (λ found. (front ++ found.0, found.1)) read
 
 -- the closing mark; a character of the value, spelled in n bytes of which the last is ASCII; or a
 -- fault

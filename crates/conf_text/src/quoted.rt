@@ -2,8 +2,8 @@
 
 ghost use Rattle.std.specs.Prelude.{◌≡◌, ◌<◌, ◌≤◌, length, slice_index, true, string_bytes, option_map, IfOk, IfSome};
 ghost use Rattle.std.specs.List.{position_or_len};
-ghost use Rattle.conf_text.specs.Quoted.{double_escape, single_escape, escape, embeds, is_special, with_front, quoted};
-ghost use Rattle.conf_text.specs.Special.{IsAtFront, IsPiece};
+ghost use Rattle.conf_text.specs.Quoted.{double_escape, single_escape, escape, embeds, is_special, quoted};
+ghost use Rattle.conf_text.specs.Special.{IsAtFront, IsPiece, with_front};
 
 use std::alloc::{AllocError, Allocator};
 

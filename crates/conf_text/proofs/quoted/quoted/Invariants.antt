@@ -2,7 +2,8 @@ use Rattle.std.proofs.Common.{◌≡◌, length}
 use Rattle.std.specs.Prelude.{string_bytes}
 use denote.Shadow.{shadow}
 use denote.Text.{Utf8}
-use Rattle.conf_text.specs.Quoted.{quoted, with_front}
+use Rattle.conf_text.specs.Quoted.{quoted}
+use Rattle.conf_text.specs.Special.{with_front}
 use Rattle.conf_text.proofs.quoted.quoted.Given as goal
 
 abbrev pub invariant-loop-value : goal.invariant-loop-value

@@ -1,7 +1,8 @@
 use Rattle.std.proofs.Common.{[], ◌∷◌, ◌≡◌, ℕ, ◌<◌, length, get_or, drop, sym, ◌∙◌, ap, arith, refl}
 use Rattle.std.proofs.lemmas.Bool.Decides.{nat_tests}
 use Rattle.std.proofs.lemmas.Bool.{eq-eqb}
-use Rattle.conf_text.specs.Quoted.{quoted, with_front}
+use Rattle.conf_text.specs.Quoted.{quoted}
+use Rattle.conf_text.specs.Special.{with_front}
 use Rattle.conf_text.proofs.Quotes.{quoted_nil, quoted_close, quoted_one, quoted_escape, quoted_embeds, quoted_stands, is_other, escape_is_ascii, special_rest}
 use Rattle.conf_text.proofs.quoted.special_at.Goals as goal
 
