@@ -6,7 +6,7 @@ use Rattle.conf_text.specs.declared.element.Element.TheOpen.{Element-F}
 use Rattle.conf_text.specs.declared.element.Element.TheViews.{roll-Element}
 use Rattle.conf_text.specs.declared.element.Element.TheFolds.{fold-roll-Element, fold_out-Element}
 use Rattle.conf_text.specs.Trees.{Tree, tree, trees}
-use Rattle.conf_text.specs.Grammar.{headed}
+use Rattle.conf_text.specs.Reading.{headed}
 use Rattle.conf_text.specs.Views.{setting, tree_step, tree_of}
 
 pub tree_of_roll : {A : Type 0} (e : Element-F A (Element A)) → tree_of (roll-Element A e) ≡ tree (headed (string_bytes e.name) (string_bytes e.argument) e.line) (map setting e.pairs.items) (trees (map tree_of e.children.items))

@@ -5,7 +5,8 @@ use Rattle.std.proofs.lemmas.List.{append-nil}
 use Rattle.conf_text.specs.Text.{is_parameter_name}
 use Rattle.conf_text.specs.Form.{LineForm, opens, ends, parameter, line_form}
 use Rattle.conf_text.specs.Trees.{Setting, Tree, Trees, tree, no_trees, more_trees, trees}
-use Rattle.conf_text.specs.Grammar.{Line, headed, set_to, numbered, most_open, IsContents, nothing, set, section}
+use Rattle.conf_text.specs.Grammar.{Line, numbered, most_open, IsContents, nothing, set, section}
+use Rattle.conf_text.specs.Reading.{headed, set_to}
 use Rattle.conf_text.specs.Laws.{setting_line, opening_line, end_line, bare_setting, bare, bares, element_lines, elements_lines, CanStand, AllCanStand, ElementsAreRead}
 use Rattle.conf_text.proofs.Contents.{IsContents-append}
 use Rattle.conf_text.proofs.Written.{settings_read, openings_read, ends_read}

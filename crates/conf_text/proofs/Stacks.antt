@@ -8,8 +8,8 @@ use Rattle.std.proofs.lemmas.Bool.{false≢true}
 use Rattle.conf_text.specs.declared.fault.FaultKind.TheVariants as kinds
 use Rattle.conf_text.specs.declared.fault.ConfFault.{ConfFault}
 use Rattle.conf_text.specs.Trees.{Heading, Setting, Tree, tree, no_trees}
-use Rattle.conf_text.specs.Grammar.{headed, most_open, Frame, frame}
-use Rattle.conf_text.specs.Reading.{stack, open_one, faulty, with_element, closed, close_in, close_one, first_and, end_in, end_of}
+use Rattle.conf_text.specs.Grammar.{most_open}
+use Rattle.conf_text.specs.Reading.{stack, open_one, faulty, with_element, closed, close_in, close_one, first_and, end_in, end_of, headed, Frame, frame}
 
 -- what is pushed last is the innermost
 pub outer_push : {X Y : Type 0} (f : X → Y) (xs : List X) (x : X) → reverse (map f (xs ++ (x ∷ []))) ≡ f x ∷ reverse (map f xs)

@@ -9,13 +9,13 @@ use Rattle.conf_text.specs.declared.fault.FaultKind.{FaultKind}
 use Rattle.conf_text.specs.declared.fault.FaultKind.TheVariants as kinds
 use Rattle.conf_text.specs.declared.fault.ConfFault.{ConfFault}
 use Rattle.conf_text.specs.Trees.{Setting, Tree}
-use Rattle.conf_text.specs.Grammar.{Line, lines_of, IsConfiguration, IsContents, nothing, most_open, top, with_first, Frame, frame, IsOpen, outside, BreaksAt, EndsOpen, HasFault, IsRefusal, bad_byte_line}
+use Rattle.conf_text.specs.Grammar.{Line, lines_of, IsConfiguration, IsContents, most_open, top, with_first, BreaksAt, EndsOpen, HasFault, IsRefusal, bad_byte_line}
 use Rattle.conf_text.specs.Answers.{Gives}
 use Rattle.conf_text.specs.Laws.{HasOneReading, HasOneFault, IsFaultless, IsOneOrOther}
 use Rattle.conf_text.specs.declared.fault.ConfError.{ConfError}
 use Rattle.conf_text.specs.declared.fault.ConfError.TheVariants as errors
-use Rattle.conf_text.specs.Reading.{◌>>=◌, Stack, stack, faulty, steps, start, first_and, end_in, end_of, elements_of, reading}
-use Rattle.conf_text.proofs.Contents.{open_read, steps_after, steps_open, steps_fault, top_is, step_breaks, bind_err, err_is, no_ok, no_err}
+use Rattle.conf_text.specs.Reading.{◌>>=◌, Frame, frame, Stack, faulty, steps, start, first_and, end_in, end_of, elements_of, reading}
+use Rattle.conf_text.proofs.Contents.{IsOpen, outside, open_read, steps_open, steps_fault, start_open, top_is, breaks_stop, open_ends, ends_taken, bind_err, err_is, no_ok, no_err}
 
 same_first : (settings : List Setting) (elements : List Tree) → first_and top settings elements ≡ with_first settings elements
 same_first [] elements = refl
@@ -40,18 +40,15 @@ end_err : (all : List Line) (innermost : Frame) (outer : List Frame) (f : ConfFa
 end_err all innermost [] f opened_is e = absurd (no_err _ _ e)
 end_err all innermost (parent ∷ outer) f opened_is e =
     let is = err_is _ f e in
-    (ap (λ (g : ConfFault). g.kind) (sym is), record { innermost = innermost; parent = parent; outer = outer; opened = opened_is; line_is = ap (λ (g : ConfFault). g.line) (sym is) })
-
-start_open : IsOpen [] start.innermost start.outer
-start_open = outside nothing
+    (ap (λ (g : ConfFault). g.kind) (sym is), subst (λ (n : ℕ). EndsOpen all n) (ap (λ (g : ConfFault). g.line) is) (open_ends opened_is))
 
 -- a line that breaks the grammar breaks it by one of four kinds
 breaks_fault : (text : List ℕ) (kind : FaultKind) (line : ℕ) → IsUtf8 text → BreaksAt (lines_of text) kind line → HasFault text kind line
-breaks_fault text kinds.OpenSection line utf8 b = absurd b.breaks
+breaks_fault text kinds.OpenSection line utf8 b = absurd b.fault
 breaks_fault text kinds.WrongEnd line utf8 b = (utf8, b)
 breaks_fault text kinds.BadQuote line utf8 b = (utf8, b)
 breaks_fault text kinds.BadName line utf8 b = (utf8, b)
-breaks_fault text kinds.NotUtf8 line utf8 b = absurd b.breaks
+breaks_fault text kinds.NotUtf8 line utf8 b = absurd b.fault
 breaks_fault text kinds.TooDeep line utf8 b = (utf8, b)
 
 lines_ok : (text : List ℕ) (elements : List Tree) → IsUtf8 text → elements_of (lines_of text) ≡ Ok elements → IsConfiguration text elements
@@ -109,13 +106,16 @@ complete_ok text elements c =
 
 breaks_read : (text : List ℕ) (kind : FaultKind) (line : ℕ) → IsUtf8 text → BreaksAt (lines_of text) kind line → reading text ≡ faulty kind line
 unfolding elements_of
-breaks_read text kind line utf8 b =
-    let stopped : steps ((line, b.form) ∷ b.after) (stack b.innermost b.outer) ≡ faulty kind line = ap (λ (r : Result Stack ConfFault). r >>= λ t. steps b.after t) (step_breaks kind line b.form b.innermost b.outer b.breaks) in
-    let all : steps (lines_of text) start ≡ faulty kind line = ap (λ (ls : List Line). steps ls start) b.parts ∙ steps_after b.before ((line, b.form) ∷ b.after) start (stack b.innermost b.outer) (open_read b.opened) ∙ stopped in
-    reading_lines text utf8 ∙ ap (λ (r : Result Stack ConfFault). r >>= λ s. end_of s) all
+breaks_read text kind line utf8 b = reading_lines text utf8 ∙ ap (λ (r : Result Stack ConfFault). r >>= λ s. end_of s) (breaks_stop (lines_of text) kind line b)
+
+ends_read : (text : List ℕ) (line : ℕ) → IsUtf8 text → EndsOpen (lines_of text) line → reading text ≡ faulty kinds.OpenSection line
+unfolding elements_of end_of
+ends_read text line utf8 h =
+    let taken = ends_taken (lines_of text) line h in
+    reading_lines text utf8 ∙ ap (λ (r : Result Stack ConfFault). r >>= λ s. end_of s) taken.1 ∙ taken.2
 
 pub complete_err : (text : List ℕ) (kind : FaultKind) (line : ℕ) → HasFault text kind line → reading text ≡ faulty kind line
-complete_err text kinds.OpenSection line h = reading_end text h.1.innermost (h.1.parent ∷ h.1.outer) h.0 h.1.opened ∙ ap (λ (n : ℕ). faulty kinds.OpenSection n) (sym h.1.line_is)
+complete_err text kinds.OpenSection line h = ends_read text line h.0 h.1
 complete_err text kinds.WrongEnd line h = breaks_read text kinds.WrongEnd line h.0 h.1
 complete_err text kinds.BadQuote line h = breaks_read text kinds.BadQuote line h.0 h.1
 complete_err text kinds.BadName line h = breaks_read text kinds.BadName line h.0 h.1

@@ -3,8 +3,7 @@ use Rattle.std.specs.Prelude.{string_bytes, map, reverse}
 use Rattle.conf_text.specs.declared.section.Section.{Section}
 use Rattle.conf_text.specs.declared.section.Reader.{Reader}
 use Rattle.conf_text.specs.Views.{setting, tree_of}
-use Rattle.conf_text.specs.Grammar.{headed, Frame, frame}
-use Rattle.conf_text.specs.Reading.{Stack, stack}
+use Rattle.conf_text.specs.Reading.{headed, Frame, frame, Stack, stack}
 
 -- one of them
 abbrev pub frame_of : {A : Type 0} → Section A → Frame

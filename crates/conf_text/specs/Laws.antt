@@ -6,7 +6,7 @@ use Rattle.conf_text.specs.Text.{trimmed, is_name, is_parameter_name}
 use Rattle.conf_text.specs.Quoted.{quoted}
 use Rattle.conf_text.specs.Form.{opens, ends, parameter, line_form}
 use Rattle.conf_text.specs.Trees.{Setting, Tree, Trees, tree, no_trees, more_trees, trees}
-use Rattle.conf_text.specs.Grammar.{headed, set_to, numbered, most_open, IsContents, IsConfiguration, HasFault}
+use Rattle.conf_text.specs.Grammar.{numbered, most_open, IsContents, IsConfiguration, HasFault}
 
 -- a text is a configuration of one list of elements alone
 abbrev pub HasOneReading : Type 0
@@ -84,13 +84,13 @@ EndsAreRead = (name : List ℕ) → is_name name ≡ true → line_form (end_lin
 
 -- a parameter but for its line
 abbrev pub bare_setting : Setting → Setting
-bare_setting s = set_to s.name s.value 0
+bare_setting s = record s { line = 0 }
 
 -- an element but for its lines, and so for several
 abbrev mutual
   pub bare : Tree → Tree
-  bare (tree heading settings children) = tree (headed heading.name heading.argument 0)
-      (map bare_setting settings) (bares children)
+  bare (tree heading settings children) =
+      tree (record heading { line = 0 }) (map bare_setting settings) (bares children)
 
   pub bares : Trees → Trees
   bares no_trees = no_trees

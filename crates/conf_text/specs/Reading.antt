@@ -6,7 +6,7 @@ use Rattle.conf_text.specs.declared.fault.FaultKind.TheVariants as kinds
 use Rattle.conf_text.specs.declared.fault.ConfFault.{ConfFault}
 use Rattle.conf_text.specs.Trees.{Heading, Setting, Tree, tree, no_trees, trees}
 use Rattle.conf_text.specs.Form.{LineForm, ignored, opens, ends, parameter, bad_name, bad_quote}
-use Rattle.conf_text.specs.Grammar.{Line, lines_of, headed, set_to, most_open, top, Frame, frame, bad_byte_line}
+use Rattle.conf_text.specs.Grammar.{Line, lines_of, most_open, top, bad_byte_line}
 
 infixl 10 ◌>>=◌
 -- goes on with what was read, or stays at a fault
@@ -14,6 +14,25 @@ abbrev pub ◌>>=◌ : {A B : Type 0} → Result A ConfFault → (A → Result B
     → Result B ConfFault
 (Ok x) >>= f = f x
 (Err e) >>= f = Err e
+
+-- how an element of this line begins
+abbrev pub headed : List ℕ → List ℕ → ℕ → Heading
+headed name argument line = record { name = name; argument = argument; line = line }
+
+-- a parameter of this line
+abbrev pub set_to : List ℕ → List ℕ → ℕ → Setting
+set_to name value line = record { name = name; value = value; line = line }
+
+-- an open section, or what stands outside every section, with what it has so far
+pub record Frame : Type 0 where
+  pub heading : Heading
+  pub settings : List Setting
+  pub elements : List Tree
+
+-- a frame, by its parts
+abbrev pub frame : Heading → List Setting → List Tree → Frame
+frame heading settings elements =
+    record { heading = heading; settings = settings; elements = elements }
 
 -- the innermost frame, and those round it from the inside out
 pub record Stack : Type 0 where

@@ -4,9 +4,9 @@ ghost use Rattle.std.specs.Prelude.{◌≡◌, [], map, reverse, length, IfOk, O
 ghost use Rattle.conf_text.specs.Views.{setting, tree_of};
 ghost use Rattle.conf_text.specs.Trees.{tree, trees};
 ghost use Rattle.conf_text.specs.Form.{line_form};
-ghost use Rattle.conf_text.specs.Grammar.{frame, headed, top, set_to};
+ghost use Rattle.conf_text.specs.Grammar.{top};
 ghost use Rattle.conf_text.specs.Answers.{Gives};
-ghost use Rattle.conf_text.specs.Reading.{open_one, close_one, step, with_setting, with_element, closed, stack, start, first_and, end_of};
+ghost use Rattle.conf_text.specs.Reading.{frame, headed, set_to, open_one, close_one, step, with_setting, with_element, closed, stack, start, first_and, end_of};
 ghost use Rattle.conf_text.specs.Frames.{frame_of, stack_of};
 
 use crate::element::{Element, Pair};

@@ -1,6 +1,6 @@
 use Rattle.std.proofs.Common.{◌<◌, ◌∷◌, length, map, Ok, sym, ◌∙◌, ap, arith}
 use Rattle.std.proofs.lemmas.Bool.Decides.{nat_tests}
-use Rattle.conf_text.specs.Grammar.{headed}
+use Rattle.conf_text.specs.Reading.{headed}
 use Rattle.std.specs.Prelude.{string_bytes}
 use Rattle.conf_text.specs.Trees.{Tree, tree, trees}
 use Rattle.conf_text.specs.Views.{setting, tree_of}
