@@ -3,14 +3,16 @@
 use Rattle.std.proofs.Common.{◌≡◌, ℕ, ◌≤◌, ◌&&◌, Bool, true, false, cond, List, ◌++◌, Option, Some, None, option_map, refl, sym, ap, subst, ◌∙◌, inl, inr, arith, IsSomeAnd}
 use Rattle.std.proofs.lemmas.Option.{same_Some}
 use Rattle.std.proofs.lemmas.List.Elements.{Contains-append_left}
+use Rattle.std.specs.Prelude.{not, is_none}
 use Rattle.std.specs.Option.{option_and_then, option_map_or}
 use Rattle.custody_store.specs.declared.chunk.Stage.{Stage}
 use Rattle.custody_store.specs.declared.chunk.Stage.TheVariants.{Staged, Queued, Claimed}
 use Rattle.custody_store.specs.Buffers.{Event, Chunk, BufferState, is_queued, none_queued_below, without_oldest, restarted, unclaimed, started_again}
+use Rattle.relay_conf.specs.BufferSection.{kind_view}
 use Rattle.relay_conf.specs.declared.output.Output.{Output}
 use Rattle.relay_conf.specs.declared.output.Output.TheVariants as output
 use Rattle.relay_net.specs.Network.{Network, output_at, is_in_memory}
-use Rattle.relay_net.specs.Outputs.{Keeps, is_memory, settings_of}
+use Rattle.relay_net.specs.Outputs.{Keeps, settings_of}
 use Rattle.custody_steps.specs.World.{World, with_buffer}
 use Rattle.custody_core.proofs.Borne.{Origin}
 use Rattle.custody_core.proofs.Safe.{Buffers, Ranking, KeepsAt, IsSafe, changed, safe_here}
@@ -78,12 +80,12 @@ oldest_ranked net labelled ranks clock w is place buffer lets_go =
 -- Restarts.
 
 -- a buffer that keeps is in no memory
-keeps_in_file : {A : Type 0} (o : Option (Output A)) → IsSomeAnd o Keeps → option_map_or (λ settings. is_memory settings.kind) (option_and_then settings_of o) false ≡ false
+keeps_in_file : {A : Type 0} (o : Option (Output A)) → IsSomeAnd o Keeps → option_map_or (λ settings. is_none (kind_view settings.kind)) (option_and_then settings_of o) false ≡ false
 keeps_in_file None h = absurd h
 keeps_in_file (Some (output.Null line)) h = absurd h
 keeps_in_file (Some (output.Relabel target line)) h = absurd h
-keeps_in_file (Some (output.Forward settings line)) h = h.0.in_file
-keeps_in_file (Some (output.File settings line)) h = h.in_file
+keeps_in_file (Some (output.Forward settings line)) h = ap not h.0.in_file
+keeps_in_file (Some (output.File settings line)) h = ap not h.in_file
 
 pub in_file : {A : Type 0} (net : Network A) (place buffer : ℕ) → KeepsAt net place buffer → is_in_memory net place buffer ≡ false
 in_file net place buffer keeps = keeps_in_file (output_at net place buffer) keeps

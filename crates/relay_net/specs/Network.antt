@@ -1,5 +1,5 @@
 -- The network: where an address leads, and what outputs a relay has.
-use Rattle.std.specs.Prelude.{◌==◌, ℕ, suc, Bool, false, cond, List, [], ◌∷◌, Option, None, option_map, slice_get, find, position, is_some, string_bytes}
+use Rattle.std.specs.Prelude.{◌==◌, ℕ, suc, Bool, false, cond, List, [], ◌∷◌, Option, None, option_map, slice_get, find, position, is_some, is_none, string_bytes}
 use Rattle.std.specs.List.{flat_map, list_all}
 use Rattle.std.specs.Option.{option_and_then, option_map_or, option_or}
 use Rattle.std.specs.Str.{bytes_eq}
@@ -10,7 +10,8 @@ use Rattle.relay_conf.specs.declared.output.Server.{Server}
 use Rattle.tag_pattern.specs.Prefixes.{entered_tag}
 use Rattle.relay_net.specs.Addresses.{Address}
 use Rattle.relay_conf.specs.Buffers.{buffer_number}
-use Rattle.relay_net.specs.Outputs.{is_numbered, settings_of, is_memory}
+use Rattle.relay_conf.specs.BufferSection.{kind_view}
+use Rattle.relay_net.specs.Outputs.{settings_of}
 use Rattle.relay_net.specs.declared.address.Entrance.{Entrance}
 use Rattle.relay_net.specs.declared.node.Client.{Client}
 use Rattle.relay_net.specs.declared.node.Node.{Node}
@@ -106,7 +107,8 @@ outputs_of relay = flat_map (λ scope. flat_map (λ rule. rule.outputs.items) sc
 
 -- the output of this buffer of a relay; of equal numbers the first is meant
 abbrev pub output_of : {A : Type 0} → Relay A → ℕ → Option (Output A)
-output_of relay buffer = find (λ o. is_numbered (buffer_number o) buffer) (outputs_of relay)
+output_of relay buffer = find
+    (λ o. option_map_or (λ number. number == buffer) (buffer_number o) false) (outputs_of relay)
 
 -- the output of this buffer of the relay at this place
 abbrev pub output_at : {A : Type 0} → Network A → ℕ → ℕ → Option (Output A)
@@ -114,5 +116,5 @@ output_at net place buffer = option_and_then (λ relay. output_of relay buffer) 
 
 -- the chunks of this buffer are in memory
 abbrev pub is_in_memory : {A : Type 0} → Network A → ℕ → ℕ → Bool
-is_in_memory net place buffer = option_map_or (λ settings. is_memory settings.kind)
+is_in_memory net place buffer = option_map_or (λ settings. is_none (kind_view settings.kind))
     (option_and_then settings_of (output_at net place buffer)) false

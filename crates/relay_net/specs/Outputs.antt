@@ -1,8 +1,7 @@
 -- What an output's settings say.
-use Rattle.std.specs.Prelude.{◌≡◌, ◌==◌, ◌&&◌, not, ℕ, Bool, true, false, List, [], Option, Some, None}
+use Rattle.std.specs.Prelude.{◌≡◌, ◌==◌, ◌&&◌, ℕ, Bool, true, false, List, [], Option, Some, None, IsSome, is_some, is_none}
 use Rattle.std.specs.Option.{option_map_or}
-use Rattle.relay_conf.specs.declared.buffer.BufferKind.{BufferKind}
-use Rattle.relay_conf.specs.declared.buffer.BufferKind.TheVariants as kind
+use Rattle.relay_conf.specs.BufferSection.{kind_view}
 use Rattle.relay_conf.specs.declared.buffer.BufferSettings.{BufferSettings}
 use Rattle.relay_conf.specs.declared.buffer.OverflowAction.{OverflowAction}
 use Rattle.relay_conf.specs.declared.buffer.OverflowAction.TheVariants.{ThrowException, DropOldestChunk}
@@ -12,8 +11,7 @@ use Rattle.relay_conf.specs.declared.output.Server.{Server}
 
 -- the number is there and is this buffer
 abbrev pub is_numbered : Option ℕ → ℕ → Bool
-is_numbered None buffer = false
-is_numbered (Some number) buffer = number == buffer
+is_numbered found buffer = option_map_or (λ number. number == buffer) found false
 
 -- the settings of an output's buffer
 abbrev pub settings_of : {A : Type 0} → Output A → Option (BufferSettings A)
@@ -26,19 +24,14 @@ abbrev pub servers_of : {A : Type 0} → Output A → List (Server A)
 servers_of (output.Forward settings line) = settings.servers.items
 servers_of _ = []
 
--- the chunks are in memory
-abbrev pub is_memory : {A : Type 0} → BufferKind A → Bool
-is_memory kind.Memory = true
-is_memory (kind.File path) = false
-
 -- the output has a buffer, whose chunks are in memory
 abbrev pub has_memory : {A : Type 0} → Output A → Bool
-has_memory o = option_map_or (λ settings. is_memory settings.kind) (settings_of o) false
+has_memory o = option_map_or (λ settings. is_none (kind_view settings.kind)) (settings_of o) false
 
 -- A buffer that lets no chunk go before it is delivered: its chunks outlive a restart, it tries for
 -- ever, and it refuses what comes when it is full.
 pub record KeepsChunks {A : Type 0} (settings : BufferSettings A) : Type 0 where
-  pub in_file : is_memory settings.kind ≡ false
+  pub in_file : IsSome (kind_view settings.kind)
   pub for_ever : settings.retry.forever ≡ true
   pub refuses : settings.overflow_action ≡ ThrowException
 
@@ -56,5 +49,5 @@ is_refusing DropOldestChunk = false
 
 -- whether a buffer lets no chunk go before it is delivered
 abbrev pub keeps_chunks : {A : Type 0} → BufferSettings A → Bool
-keeps_chunks settings = not (is_memory settings.kind)
+keeps_chunks settings = is_some (kind_view settings.kind)
     && (settings.retry.forever && is_refusing settings.overflow_action)

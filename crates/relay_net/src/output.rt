@@ -1,9 +1,10 @@
 //! What an output's settings say.
 
-ghost use Rattle.std.specs.Prelude.{◌≡◌, ◌↔◌, IsTrue, slice_get};
+ghost use Rattle.std.specs.Prelude.{◌≡◌, ◌↔◌, IsTrue, is_none, slice_get};
 ghost use Rattle.std.specs.Option.{option_copied};
 ghost use Rattle.relay_conf.specs.Buffers.{buffer_number};
-ghost use Rattle.relay_net.specs.Outputs.{settings_of, servers_of, has_memory, KeepsChunks, is_memory as has_memory_kind, keeps_chunks as chunks_kept, Keeps};
+ghost use Rattle.relay_net.specs.Outputs.{settings_of, servers_of, has_memory, KeepsChunks, keeps_chunks as chunks_kept, Keeps};
+ghost use Rattle.relay_conf.specs.BufferSection.{kind_view};
 
 use relay_conf::{BufferKind, BufferSettings, Output, OverflowAction, Server};
 use std::alloc::Allocator;
@@ -81,7 +82,7 @@ pub fn keeps_chunks<A: Allocator>(settings: &BufferSettings<A>) -> bool
 
 /// Whether the chunks are in memory.
 fn is_memory<A: Allocator>(kind: &BufferKind<A>) -> bool
-    ensures { result ≡ has_memory_kind kind.now }
+    ensures { result ≡ is_none (kind_view kind.now) }
 {
     match kind {
         BufferKind::Memory => true,
