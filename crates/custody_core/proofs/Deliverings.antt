@@ -23,6 +23,7 @@ use Rattle.custody_store.proofs.Lists.{some_and}
 use Rattle.loss_rules.proofs.Members.{contains-map}
 use Rattle.custody_core.proofs.Serials.{event_of}
 use Rattle.relay_net.specs.Routed.{SendsTo}
+use Rattle.relay_net.proofs.Sending.{sends_by}
 use Rattle.custody_core.proofs.Lists.{get-map}
 use Rattle.custody_core.proofs.Safe.{Ranking, KeepsAt}
 use Rattle.custody_core.proofs.Ranked.{Labelling, IsTaken, IsKnownDelivery, IsIdOf, IsRanked}
@@ -132,6 +133,6 @@ forwarded net labelled ranks clock w is name server h =
     rw (n.is_place, n.is_chunk) (sent_to net labelled ranks clock _ marked n.place name.buffer name.serial chunk (option_and_then (λ o. slice_get (servers_of o) server) (output_at net n.place name.buffer))
     (λ found e. (let s = server_of (output_at net n.place name.buffer) server found e in (
       known.sent_on s.0 s.1 server found s.2,
-      record { output = s.0; there = s.1; server = found; among = get-contains (servers_of s.0) found server s.2; address_is = refl },
+      sends_by net n.place name.buffer s.0 s.1 found (get-contains (servers_of s.0) found server s.2),
     )))
     (λ keeps. (moved.ids n.place name.buffer keeps name.serial chunk.tag chunk.entries (id keeps)).0))

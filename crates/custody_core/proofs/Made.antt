@@ -12,6 +12,7 @@ use Rattle.relay_net.specs.Network.{Network, place_of, entrance, tag_at, address
 use Rattle.relay_net.specs.Outputs.{servers_of}
 use Rattle.relay_net.specs.Ways.{HasLoop}
 use Rattle.relay_net.specs.Routed.{SendsTo, Follows, sent}
+use Rattle.relay_net.proofs.Sending.{sends_by}
 use Rattle.custody_store.specs.Buffers.{Event, Chunk, BufferState, with_chunk, events_of, started_again, without_oldest, appended_to}
 use Rattle.custody_store.proofs.Members.{get-contains}
 use Rattle.custody_store.specs.Book.{Message, Delivery, Told, ended}
@@ -288,7 +289,7 @@ forward_honest net w is name server =
     let at : (w.buffers place name.buffer).chunks name.serial ≡ Some chunk = rw e at f in
     let is_named : with_named net w name (λ c. Some (record c { forwarded = true })) ≡ with_buffer w place name.buffer change = rw e refl in
     rw is_named (sent_on net w is place name.buffer name.serial chunk ((is.buffers place name.buffer).chunks name.serial chunk at) _
-    (λ found g. (let s = server_of (output_at net place name.buffer) server found (rw e at g) in record { output = s.0; there = s.1; server = found; among = get-contains (servers_of s.0) found server s.2; address_is = refl }))
+    (λ found g. (let s = server_of (output_at net place name.buffer) server found (rw e at g) in sends_by net place name.buffer s.0 s.1 found (get-contains (servers_of s.0) found server s.2)))
     _ changed.buffers))))
 
 module _ {A : Type 0} (net : Network A) (w : World) (is : IsHonest net w) where

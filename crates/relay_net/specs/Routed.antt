@@ -1,8 +1,7 @@
 -- The tags that an event may bear on its way through a network: from what its client sent, with the
 -- prefix of each source that it enters in front, along relabels and forwards.
-use Rattle.std.specs.Prelude.{◌≡◌, ◌≤◌, ℕ, List, length, Some, Contains}
-use Rattle.relay_conf.specs.declared.output.Output.{Output}
-use Rattle.relay_conf.specs.declared.output.Server.{Server}
+use Rattle.std.specs.Prelude.{◌≡◌, ◌≤◌, ℕ, List, length, map, Some, Contains}
+use Rattle.std.specs.Option.{IsSomeAnd}
 use Rattle.relay_net.specs.Addresses.{Address}
 use Rattle.relay_net.specs.Network.{Network, entrance, tag_at, address_of_server, output_at}
 use Rattle.relay_net.specs.Outputs.{servers_of}
@@ -18,14 +17,10 @@ pub record ComesTo {A : Type 0} (net : Network A) (at : Entrance) (tag : List �
   pub ends : ¬ IsLoop (table_at net at.relay) tag at.scope
   pub leaf : IsLeaf (table_at net at.relay) tag at.scope buffer
 
--- The output of this buffer sends to a server with this address.
-pub record SendsTo {A : Type 0} (net : Network A) (place buffer : ℕ)
-    (address : Address) : Type 0 where
-  pub output : Output A
-  pub there : output_at net place buffer ≡ Some output
-  pub server : Server A
-  pub among : Contains (servers_of output) server
-  pub address_is : address ≡ address_of_server server
+-- the output of this buffer sends to a server with this address
+abbrev pub SendsTo : {A : Type 0} → Network A → ℕ → ℕ → Address → Type 0
+SendsTo net place buffer address = IsSomeAnd (output_at net place buffer)
+    (λ output. Contains (map address_of_server (servers_of output)) address)
 
 -- The events of a message with this tag, sent to this address, may go on in a message with that
 -- tag, sent to that address: a buffer that they come to forwards them, under the tag that they bear

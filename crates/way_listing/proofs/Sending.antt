@@ -11,7 +11,7 @@ use Rattle.relay_net.specs.declared.address.Entrance.{Entrance}
 use Rattle.route_graph.specs.Listing.{numbers_of}
 use Rattle.route_graph.specs.Ways.{IsLeaf, IsLoop}
 use Rattle.relay_net.specs.Routed.{ComesTo, LeadsOn, SendsTo}
-use Rattle.relay_net.proofs.Sending.{number_in, leaf_of}
+use Rattle.relay_net.proofs.Sending.{number_in, leaf_of, sends_by, sent_from}
 use Rattle.relay_net.specs.Addresses.{Address}
 use Rattle.tag_pattern.specs.Parts.{most_tag_bytes}
 use Rattle.tag_pattern.specs.Prefixes.{entered_tag}
@@ -20,14 +20,14 @@ use Rattle.way_listing.specs.Sendings.{Sending, Through, GoesOn, sending}
 module _ {A : Type 0} (net : Network A) (place buffer : ℕ) (tag : List ℕ) (output : Output A) (there : output_at net place buffer ≡ Some output) (next : Sending) where
   pub by_server : Through (λ (server : Server A) (x : Sending). sending (address_of_server server) tag ≡ x) (servers_of output) next → SendsTo net place buffer next.address × (next.tag ≡ tag)
   by_server h = (
-    record { output = output; there = there; server = h.0; among = h.1; address_is = sym (ap (λ (x : Sending). x.address) h.2) },
+    subst (SendsTo net place buffer) (ap (λ (x : Sending). x.address) h.2) (sends_by net place buffer output there h.0 h.1),
     sym (ap (λ (x : Sending). x.tag) h.2),
   )
 
   pub sent_by : SendsTo net place buffer next.address × (next.tag ≡ tag) → Through (λ (server : Server A) (x : Sending). sending (address_of_server server) tag ≡ x) (servers_of output) next
   sent_by h =
-      let same : h.0.output ≡ output = same_Some h.0.output output (sym h.0.there ∙ there) in
-      (h.0.server, subst (λ (o : Output A). Contains (servers_of o) h.0.server) same h.0.among, λ i. record { address = sym h.0.address_is i; tag = sym h.1 i })
+      let s = sent_from net place buffer output there next.address h.0 in
+      (s.0, s.1, λ i. record { address = s.2 i; tag = sym h.1 i })
 
 -- An event comes in there and bears this tag; its way ends, at these leaves.
 module _ {A : Type 0} (net : Network A) (here : Sending) (at : Entrance) (enters : entrance net here.address ≡ Some at) (tag : List ℕ) (is : tag ≡ tag_at net here.address here.tag) (short : length tag ≤ most_tag_bytes)
