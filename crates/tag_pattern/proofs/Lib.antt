@@ -1,3 +1,4 @@
+pub mod Anys
 pub mod Cells
 pub mod RowSteps
 pub mod Sets

@@ -1,17 +1,13 @@
 -- The plain patterns of a text, read one by one, and its faults.
-use Rattle.std.proofs.Common.{◌≡◌, ℕ, ◌+◌, ◌<◌, ◌≤◌, List, [], ◌∷◌, ◌++◌, length, map, take, get_or, suc, zero, Result, Err, MatchResult, inl, inr, refl, ap, subst, ◌∙◌, arith}
+use Rattle.std.proofs.Common.{◌≡◌, ℕ, ◌+◌, ◌<◌, ◌≤◌, List, [], ◌∷◌, ◌++◌, length, map, take, get_or, suc, zero, Result, Ok, Err, MatchResult, IfOk, inl, inr, refl, ap, subst, ◌∙◌, arith}
 use Rattle.std.proofs.lemmas.Bool.{cases_lt}
 use Rattle.std.proofs.lemmas.List.{length-map, get_or-map, take_more}
-use Rattle.tag_pattern.specs.Grammar.{Slot, IsPatternText, AnyByRecursion, AreTooMany, IsPattern, expansions, part_item, plain_patterns}
+use Rattle.tag_pattern.specs.Grammar.{Slot, IsPatternText, AreTooMany, IsPattern, expansions, part_item, plain_patterns}
 use Rattle.tag_pattern.specs.Items.{Item}
 use Rattle.tag_pattern.specs.declared.pattern.PatternError.{PatternError}
 use Rattle.tag_pattern.specs.declared.pattern.PatternError.TheVariants.{Memory}
+use Rattle.tag_pattern.proofs.Anys.{any-at}
 use Rattle.tag_pattern.proofs.SlotCuts.{slots_unique}
-
-any_at : {X : Type 0} (P : X → Type 0) (xs : List X) (n : ℕ) (d : X) → n < length xs → P (get_or xs n d) → AnyByRecursion P xs
-any_at P [] n d below h = absurd (omega arith)
-any_at P (x ∷ xs) zero d below h = inl h
-any_at P (x ∷ xs) (suc n) d below h = inr (any_at P xs n d (omega arith) h)
 
 -- no plain pattern is too long
 pub short : (slots : List Slot) (number : ℕ) (items : List Item) → (AreTooMany slots → ⊥) → number < length (plain_patterns slots) → items ≡ map part_item (get_or (expansions slots) number []) → length items ≤ 32
@@ -20,7 +16,7 @@ short slots number items few below is =
     let parts = get_or (expansions slots) number [] in
     let long : length items ≡ length parts = ap length is ∙ length-map parts part_item in
     elim (cases_lt 32 (length items)) [
-      | inl more ↦ absurd (few (inr (any_at (λ x. 32 < length x) (expansions slots) number [] (omega arith) (omega arith))))
+      | inl more ↦ absurd (few (inr (any-at (λ x. 32 < length x) (expansions slots) number [] (omega arith) (omega arith))))
       | inr less ↦ less
     ]
 
@@ -42,6 +38,11 @@ same_count slots others text n h k is = subst (λ (x : List Slot). n ≡ length 
 -- what holds of the slots of a text holds of any slots that it has
 pub moved : (P : List Slot → Type 0) (slots others : List Slot) (text : List ℕ) → IsPatternText slots text → IsPatternText others text → P slots → P others
 moved P slots others text h k p = subst P (slots_unique slots others text h k) p
+
+-- what holds of each value that a call gives
+pub ok_from : {X Y : Type 0} (P R : X → Type 0) (Q : Y → Type 0) (r : Result X Y) → ((x : X) → P x → R x) → MatchResult r P Q → IfOk r R
+ok_from P R Q (Ok x) f h = f x h
+ok_from P R Q (Err e) f h = tt
 
 pub only_memory : {X : Type 0} (r : Result X PatternError) (P : X → Type 0) (fault : PatternError) → MatchResult r P (λ e. e ≡ Memory) → r ≡ Err fault → fault ≡ Memory
 only_memory r P fault h is = rw is at h

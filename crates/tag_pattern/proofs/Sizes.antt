@@ -1,6 +1,7 @@
 -- How many plain patterns slots stand for, how long they are, and whether a part is wrong.
-use Rattle.std.proofs.Common.{◌≡◌, ◌≢◌, ℕ, ◌+◌, ◌*◌, ◌<◌, ◌≤◌, ◌==◌, ◌⊎◌, ◌↔◌, Bool, not, ◌&&◌, ◌||◌, IsTrue, List, [], ◌∷◌, ◌++◌, length, map, Option, Some, None, MatchOption, inl, inr, refl, sym, ap, subst, ◌∙◌, ⊎_elim, arith, length-append}
-use Rattle.std.specs.List.{AllByRecursion, list_any, flat_map}
+use Rattle.std.proofs.Common.{◌≡◌, ◌≢◌, ℕ, ◌+◌, ◌*◌, ◌<◌, ◌≤◌, ◌==◌, ◌⊎◌, ◌↔◌, Bool, not, true, ◌&&◌, ◌||◌, IsTrue, List, [], ◌∷◌, ◌++◌, length, map, Option, Some, None, MatchOption, inl, inr, refl, sym, ap, subst, ◌∙◌, ⊎_elim, arith, length-append}
+use Rattle.std.specs.List.{AllByRecursion, Any, list_any, flat_map}
+use Rattle.std.proofs.lemmas.List.Folds.{Any-from_list_any, list_any-from_Any}
 use Rattle.std.specs.Str.{bytes_eq}
 use Rattle.std.proofs.lemmas.Bool.{or_cases, or_left, or_right, and_parts, and_from, eq-eqb, eqb-true, not-true, not_from_false, false≢true, false_from_ne_true, cases_lt}
 use Rattle.std.proofs.lemmas.List.{length-map}
@@ -10,17 +11,16 @@ use Rattle.tag_pattern.specs.Cuts.{choices_in, is_partial, most_parts, SpellsRes
 use Rattle.tag_pattern.specs.Grammar.{Slot, Part, Group, AnyByRecursion, AreTooMany, HasPartialWildcard, IsPartialWildcard, IsSlot, IsPatternText, choices, expansions}
 use Rattle.tag_pattern.specs.Survey.{Grows, IsSizeBefore, IsSurveyed, longest}
 use Rattle.tag_pattern.specs.declared.survey.Size.{Size}
-use Rattle.tag_pattern.proofs.SlotCuts.{all_append}
+use Rattle.tag_pattern.proofs.SlotCuts.{along, all_append}
+use Rattle.tag_pattern.proofs.Anys.{any-nil, any-here, any-later, any-cases, any-along, any-from, any-none}
 
 -- ---- tests
 
-list_any_is : {X : Type 0} (p : X → Bool) (P : X → Type 0) → ((x : X) → IsTrue (p x) ↔ P x) → (xs : List X) → IsTrue (list_any p xs) ↔ AnyByRecursion P xs
-list_any_is p P test [] = (λ e. absurd (false≢true e), λ h. absurd h)
-list_any_is p P test (x ∷ xs) =
-    let tail = list_any_is p P test xs in (
-      λ e. ⊎_elim (λ h. inl ((test x).0 h)) (λ t. inr (tail.0 t)) (or_cases (p x) (list_any p xs) e),
-      λ h. ⊎_elim (λ i. or_left (p x) (list_any p xs) ((test x).1 i)) (λ t. or_right (p x) (list_any p xs) (tail.1 t)) h,
-    )
+list_any_is : {X : Type 0} (p : X → Bool) (P : X → Type 0) → ((x : X) → IsTrue (p x) ↔ P x) → (xs : List X) → IsTrue (list_any p xs) ↔ Any P xs
+list_any_is p P test xs = (
+  λ e. any-along (λ x. p x ≡ true) P (λ x. (test x).0) xs (Any-from_list_any p xs e),
+  λ h. list_any-from_Any p xs (any-along P (λ x. p x ≡ true) (λ x. (test x).1) xs h),
+)
 
 differs : (a b : List ℕ) → IsTrue (not (bytes_eq a b)) ↔ (a ≢ b)
 differs a b =
@@ -39,8 +39,8 @@ is_partial_is part =
       λ h. and_from has (one && two) (stars.1 h.0) (and_from one two ((differs part (star ∷ [])).1 h.1) ((differs part (star ∷ star ∷ [])).1 h.2)),
     )
 
-slot_partial_is : (alternatives : List (List (List ℕ))) → IsTrue (list_any (λ parts. list_any is_partial parts) alternatives) ↔ AnyByRecursion (AnyByRecursion IsPartialWildcard) alternatives
-slot_partial_is alternatives = list_any_is (λ parts. list_any is_partial parts) (AnyByRecursion IsPartialWildcard) (list_any_is is_partial IsPartialWildcard is_partial_is) alternatives
+slot_partial_is : (alternatives : List (List (List ℕ))) → IsTrue (list_any (λ parts. list_any is_partial parts) alternatives) ↔ Any (Any IsPartialWildcard) alternatives
+slot_partial_is alternatives = list_any_is (λ parts. list_any is_partial parts) (Any IsPartialWildcard) (list_any_is is_partial IsPartialWildcard is_partial_is) alternatives
 
 -- ---- counts
 
@@ -55,9 +55,7 @@ full_slot (Group (a ∷ alternatives)) is = omega arith
 
 full : (slots : List Slot) (text : List ℕ) → IsPatternText slots text → AreFull slots
 unfolding AreFull
-full [] text h = absurd h
-full (slot ∷ []) text (is, whole) = (full_slot slot is, tt)
-full (slot ∷ next ∷ slots) text (is, (rest, whole, h)) = (full_slot slot is, full (next ∷ slots) rest h)
+full slots text h = along IsSlot (λ slot. 0 < length (choices slot)) full_slot slots h.1
 
 pub length-products : (fronts backs : List (List (List ℕ))) → length (flat_map (λ front. map (λ back. front ++ back) backs) fronts) ≡ length fronts * length backs
 length-products [] backs = omega arith
@@ -91,16 +89,6 @@ any_append_left P (x ∷ xs) ys (inr h) = inr (any_append_left P xs ys h)
 any_append_right : {X : Type 0} (P : X → Type 0) (xs ys : List X) → AnyByRecursion P ys → AnyByRecursion P (xs ++ ys)
 any_append_right P [] ys h = h
 any_append_right P (x ∷ xs) ys h = inr (any_append_right P xs ys h)
-
-any_along : {X : Type 0} (P Q : X → Type 0) → ((x : X) → P x → Q x) → (xs : List X) → AnyByRecursion P xs → AnyByRecursion Q xs
-any_along P Q f [] h = absurd h
-any_along P Q f (x ∷ xs) (inl h) = inl (f x h)
-any_along P Q f (x ∷ xs) (inr h) = inr (any_along P Q f xs h)
-
-any_none : {X : Type 0} (P Q : X → Type 0) → ((x : X) → P x → Q x → ⊥) → (xs : List X) → AllByRecursion P xs → AnyByRecursion Q xs → ⊥
-any_none P Q f [] h k = absurd k
-any_none P Q f (x ∷ xs) (h, hs) (inl k) = f x h k
-any_none P Q f (x ∷ xs) (h, hs) (inr k) = any_none P Q f xs hs k
 
 -- lists of at most, and of at least, this many parts
 AtMost : ℕ → List (List ℕ) → Type 0
@@ -162,12 +150,12 @@ longest_least (slot ∷ slots) (h, hs) =
 
 too_long : (slots : List Slot) → AreFull slots → 32 < longest slots → AreTooMany slots
 unfolding AtLeast
-too_long slots h long = inr (any_along (AtLeast (longest slots)) (λ parts. 32 < length parts) (λ parts k. omega arith) (expansions slots) (longest_least slots h))
+too_long slots h long = inr (any-along (AtLeast (longest slots)) (λ parts. 32 < length parts) (λ parts k. omega arith) (expansions slots) (any-from (AtLeast (longest slots)) (expansions slots) (longest_least slots h)))
 
 within_limits : (slots : List Slot) → length (expansions slots) ≤ 64 → longest slots ≤ 32 → AreTooMany slots → ⊥
 unfolding AtMost
 within_limits slots few short (inl many) = omega arith
-within_limits slots few short (inr long) = any_none (AtMost (longest slots)) (λ parts. 32 < length parts) (λ parts h k. omega arith) (expansions slots) (longest_most slots) long
+within_limits slots few short (inr long) = any-none (AtMost (longest slots)) (λ parts. 32 < length parts) (λ parts h k. omega arith) (expansions slots) (longest_most slots) long
 
 -- ---- a survey
 
@@ -186,15 +174,15 @@ sizes_step slots behind slot body (Some s) grown f some is grows before = size_s
 
 partial_step : (slots behind : List Slot) (slot : Slot) (body : List ℕ) (has more : Bool) → choices slot ≡ choices_in body → more ≡ list_any (λ parts. list_any is_partial parts) (choices_in body) → HasPartialWildcard slots ↔ (IsTrue has ⊎ HasPartialWildcard (slot ∷ behind)) → HasPartialWildcard slots ↔ (IsTrue (has || more) ⊎ HasPartialWildcard behind)
 partial_step slots behind slot body has more is found before =
+    let P : Slot → Type 0 = λ x. Any (Any IsPartialWildcard) (choices x) in
     let test = rw (← found, ← is) at (slot_partial_is (choices_in body)) in (
       λ h. elim (before.0 h) [
         | inl told ↦ inl (or_left has more told)
-        | inr (inl here) ↦ inl (or_right has more (test.1 here))
-        | inr (inr later) ↦ inr later
+        | inr ahead ↦ elim (any-cases P slot behind ahead) [ inl here ↦ inl (or_right has more (test.1 here)) | inr later ↦ inr later ]
       ],
       λ h. elim h [
-        | inl told ↦ elim (or_cases has more told) [ inl e ↦ before.1 (inl e) | inr e ↦ before.1 (inr (inl (test.0 e))) ]
-        | inr later ↦ before.1 (inr (inr later))
+        | inl told ↦ elim (or_cases has more told) [ inl e ↦ before.1 (inl e) | inr e ↦ before.1 (inr (any-here P slot behind (test.0 e))) ]
+        | inr later ↦ before.1 (inr (any-later P slot behind later))
       ],
     )
 
@@ -206,7 +194,7 @@ survey_step slots behind text slot body rest has more size grown spelled h is fo
 
 pub surveyed_partial : (slots : List Slot) (has : Bool) (size : Option Size) → IsSurveyed slots [] has size → IsTrue has ↔ HasPartialWildcard slots
 surveyed_partial slots has size survey =
-    (λ e. survey.partial.1 (inl e), λ h. elim (survey.partial.0 h) [ inl e ↦ e | inr none ↦ absurd none ])
+    (λ e. survey.partial.1 (inl e), λ h. elim (survey.partial.0 h) [ inl e ↦ e | inr none ↦ absurd (any-nil (λ x. Any (Any IsPartialWildcard) (choices x)) none) ])
 
 pub surveyed_count : (slots : List Slot) (has : Bool) (s : Size) → s.plains ≤ 64 → s.items ≤ 32 → IsSurveyed slots [] has (Some s) → (s.plains ≡ length (expansions slots)) × (AreTooMany slots → ⊥)
 surveyed_count slots has s few short survey =

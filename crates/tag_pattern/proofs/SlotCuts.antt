@@ -12,7 +12,7 @@ use Rattle.tag_pattern.proofs.Splits.{HasNo, pieces, pieces_lack, pieces_some, p
 -- ---- what holds of each element
 
 module _ {X : Type 0} where
-  along : (P Q : X → Type 0) → ((x : X) → P x → Q x) → (xs : List X) → AllByRecursion P xs → AllByRecursion Q xs
+  pub along : (P Q : X → Type 0) → ((x : X) → P x → Q x) → (xs : List X) → AllByRecursion P xs → AllByRecursion Q xs
   along P Q f [] h = tt
   along P Q f (x ∷ xs) (h, hs) = (f x h, along P Q f xs hs)
 
@@ -246,16 +246,18 @@ Behind slots after = ((slots ≡ []) × (after ≡ [])) ⊎ ((rest : List ℕ) �
 
 spelled_first : (slots : List Slot) (text : List ℕ) → IsPatternText slots text → (slot : Slot) × (behind : List Slot) × (after : List ℕ) × (slots ≡ slot ∷ behind) × HasSlotFirst text slot after × Behind behind after
 unfolding Behind
-spelled_first [] text h = absurd h
-spelled_first (slot ∷ []) text (is, whole) = (slot, [], [], refl, record { is_slot = is; whole = whole ∙ sym (append-nil (slot_text slot)); ends = tt }, inl (refl, refl))
-spelled_first (slot ∷ next ∷ slots) text (is, (rest, whole, h)) = (slot, next ∷ slots, dot ∷ rest, refl, record { is_slot = is; whole = whole; ends = refl }, inr (rest, refl, h))
+spelled_first [] text h = absurd (h.0 refl)
+spelled_first (slot ∷ []) text h = (slot, [], [], refl, record { is_slot = h.1.0; whole = h.2 ∙ sym (append-nil (slot_text slot)); ends = tt }, inl (refl, refl))
+spelled_first (slot ∷ next ∷ slots) text h =
+    let rest = join_with_byte dot (map slot_text (next ∷ slots)) in
+    (slot, next ∷ slots, dot ∷ rest, refl, record { is_slot = h.1.0; whole = h.2; ends = refl }, inr (rest, refl, (λ e. cc, h.1.1, refl)))
 
 spells_more : (slot : Slot) (behind : List Slot) (text rest : List ℕ) → IsSlot slot → text ≡ slot_text slot ++ dot ∷ rest → IsPatternText behind rest → IsPatternText (slot ∷ behind) text
-spells_more slot [] text rest is whole h = absurd h
-spells_more slot (next ∷ slots) text rest is whole h = (is, (rest, whole, h))
+spells_more slot [] text rest is whole h = absurd (h.0 refl)
+spells_more slot (next ∷ slots) text rest is whole h = (λ e. cc, (is, h.1), whole ∙ ap (λ (x : List ℕ). slot_text slot ++ dot ∷ x) h.2)
 
 spells_last : (slot : Slot) (behind : List Slot) (text : List ℕ) → IsSlot slot → text ≡ slot_text slot ++ [] → behind ≡ [] → IsPatternText (slot ∷ behind) text
-spells_last slot [] text is whole none = (is, whole ∙ append-nil (slot_text slot))
+spells_last slot [] text is whole none = (λ e. cc, (is, tt), whole ∙ append-nil (slot_text slot))
 spells_last slot (next ∷ slots) text is whole none = cc
 
 pub no_body : (text : List ℕ) → ((slot : Slot) (rest : List ℕ) → HasSlotFirst text slot rest → ⊥) → (slots : List Slot) → IsPatternText slots text → ⊥
@@ -336,19 +338,20 @@ first_unique text (Group alternatives) b x y first second =
 
 -- the slots of a text
 pub slots_unique : (slots others : List Slot) (text : List ℕ) → IsPatternText slots text → IsPatternText others text → slots ≡ others
-slots_unique [] others text h k = absurd h
-slots_unique (slot ∷ []) others text (is, whole) k =
+slots_unique [] others text h k = absurd (h.0 refl)
+slots_unique (slot ∷ []) others text h k =
     let found = spelled_first others text k in
-    let mine : HasSlotFirst text slot [] = record { is_slot = is; whole = whole ∙ sym (append-nil (slot_text slot)); ends = tt } in
+    let mine : HasSlotFirst text slot [] = record { is_slot = h.1.0; whole = h.2 ∙ sym (append-nil (slot_text slot)); ends = tt } in
     let same = first_unique text slot found.0 [] found.2 mine found.4 in
     let none = behind_none found.1 found.2 same.1 found.5 in
     sym (found.3 ∙ (ap (λ (x : Slot). x ∷ found.1) same.0 ∙ ap (λ (x : List Slot). slot ∷ x) none))
-slots_unique (slot ∷ next ∷ slots) others text (is, (rest, whole, h)) k =
+slots_unique (slot ∷ next ∷ slots) others text h k =
+    let rest = join_with_byte dot (map slot_text (next ∷ slots)) in
     let found = spelled_first others text k in
-    let mine : HasSlotFirst text slot (dot ∷ rest) = record { is_slot = is; whole = whole; ends = refl } in
+    let mine : HasSlotFirst text slot (dot ∷ rest) = record { is_slot = h.1.0; whole = h.2; ends = refl } in
     let same = first_unique text slot found.0 (dot ∷ rest) found.2 mine found.4 in
     let behind = behind_some found.1 found.2 dot rest same.1 found.5 in
-    let tail = slots_unique (next ∷ slots) found.1 rest h behind.1 in
+    let tail = slots_unique (next ∷ slots) found.1 rest (λ e. cc, h.1.1, refl) behind.1 in
     sym (found.3 ∙ (ap (λ (x : Slot). x ∷ found.1) same.0 ∙ ap (λ (x : List Slot). slot ∷ x) (sym tail)))
 
 -- ---- cuts

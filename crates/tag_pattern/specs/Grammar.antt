@@ -3,7 +3,7 @@
 -- Match Patterns Work?"); where groups may stand, and the order of the plain patterns, are chosen
 -- here.
 use Rattle.std.specs.Prelude.{◌≡◌, ◌≢◌, ℕ, ◌<◌, ◌⊎◌, List, [], ◌∷◌, ◌++◌, length, map, codes, if◌then◌else◌}
-use Rattle.std.specs.List.{AllByRecursion, flat_map, join_with_byte}
+use Rattle.std.specs.List.{Any, AllByRecursion, flat_map, join_with_byte}
 use Rattle.std.specs.Str.{bytes_eq}
 use Rattle.tag_pattern.specs.Items.{Item}
 use Rattle.tag_pattern.specs.Parts.{dot}
@@ -35,12 +35,10 @@ slot_text (Part text) = text
 slot_text (Group alternatives) =
     codes "{" ++ join_with_byte 44 (map (join_with_byte dot) alternatives) ++ codes "}"
 
--- A pattern's text is that of a slot, or of a slot, a dot and the text of the slots behind it.
+-- a pattern's text is that of one or more slots, which dots join
 abbrev pub IsPatternText : List Slot → List ℕ → Type 0
-IsPatternText [] text = ⊥
-IsPatternText (slot ∷ []) text = IsSlot slot × (text ≡ slot_text slot)
-IsPatternText (slot ∷ next ∷ slots) text = IsSlot slot
-    × ((rest : List ℕ) × (text ≡ slot_text slot ++ dot ∷ rest) × IsPatternText (next ∷ slots) rest)
+IsPatternText slots text = (slots ≢ []) × AllByRecursion IsSlot slots
+    × (text ≡ join_with_byte dot (map slot_text slots))
 
 -- what may stand in a slot's place: a list of parts
 abbrev pub choices : Slot → List (List (List ℕ))
@@ -70,18 +68,17 @@ AnyByRecursion P (x ∷ xs) = P x ⊎ AnyByRecursion P xs
 
 -- a part with a `*` in it that is neither `*` nor `**`
 abbrev pub IsPartialWildcard : List ℕ → Type 0
-IsPartialWildcard part = AnyByRecursion (λ b. b ≡ 42) part × (part ≢ codes "*")
+IsPartialWildcard part = Any (λ b. b ≡ 42) part × (part ≢ codes "*")
     × (part ≢ codes "**")
 
 -- such a part stands in some choice of some slot
 abbrev pub HasPartialWildcard : List Slot → Type 0
-HasPartialWildcard slots =
-    AnyByRecursion (λ slot. AnyByRecursion (AnyByRecursion IsPartialWildcard) (choices slot)) slots
+HasPartialWildcard slots = Any (λ slot. Any (Any IsPartialWildcard) (choices slot)) slots
 
 -- more than 64 plain patterns, or one of more than 32 items
 abbrev pub AreTooMany : List Slot → Type 0
-AreTooMany slots = (64 < length (expansions slots)) ⊎ AnyByRecursion (λ parts. 32 < length parts)
-    (expansions slots)
+AreTooMany slots = (64 < length (expansions slots))
+    ⊎ Any (λ parts. 32 < length parts) (expansions slots)
 
 -- The slots spell the text, no part of them has a partial wildcard, and they are not too many.
 pub record IsPattern (slots : List Slot) (text : List ℕ) : Type 0 where
