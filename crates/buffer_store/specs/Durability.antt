@@ -26,10 +26,10 @@ abbrev pub LosesOnly : Bool → JournalLog → Type 0
 LosesOnly staged t = AllByRecursion (MayBeLost staged) (drop t.durable t.steps)
 
 -- The folder is honest. The steps told mean the chunks, claimed ones counted as queued, and what a
--- stop may lose of them is only what may be lost. Until the device fails the buffer, the disk has its
--- journal so. The call that it failed in had begun one step more, or none: from then on each stop
--- leaves the steps that can't be lost, with that one or without it, and no gap of removed generations
--- is left, so that the folder can be opened at once.
+-- stop may lose of them is only what may be lost. Until the device fails the buffer, the disk has
+-- its journal so. The call that it failed in had begun one step more, or none: from then on each
+-- stop leaves the steps that can't be lost, with that one or without it, and no gap of removed
+-- generations is left, so that the folder can be opened at once.
 pub record IsDurable {D : Type 0} (is_honest : D → Type 0) (history : D → History)
     (buffer : Held D) : Type 0 where
   pub honest : is_honest buffer.dir

@@ -35,7 +35,7 @@ module _ (path : List ℕ) (faults new_faults : ℕ) (old new : Disk) where
       → (e ≡ refusal.LastGeneration → IsSome (reads old (journal_name path (2 ^ 32 - 1)))) → (IsSome (reads old (journal_name path (2 ^ 32 - 1))) → e ≢ refusal.Damaged)
       → SameDisk new old → (HasNoGap path old → IsLeft) → IsRefused path faults new_faults old new e
   search_refused law stays e damaged last unread same left = record {
-    damaged = λ is state opens. undamaged law path (reads old) state opens (damaged is);
+    damaged = damaged;
     undamaged = λ t before is. undamaged law path (reads old) _ (before (reads old) stays).opens (damaged is);
     last = last;
     unread = unread;

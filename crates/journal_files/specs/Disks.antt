@@ -24,7 +24,8 @@ pub record Keeps (journal : OpenJournal) (disk : Disk) (t : JournalLog) : Type 0
         is_durable = true;
         is_removed = false;
       })
-  pub holds : length (journal_bytes (records_of (record t { steps = take t.durable t.steps }))) ≤ synced
+  pub holds : length (journal_bytes (records_of (record t { steps = take t.durable t.steps })))
+      ≤ synced
   pub fits : synced ≤ length (journal_bytes (records_of t))
   pub counted : journal.len ≡ length (journal_bytes (records_of t))
   pub newest : (n : ℕ) → journal.number < n → n < 2 ^ 32 → disk (journal_name journal.path n) ≡ None

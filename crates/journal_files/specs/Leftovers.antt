@@ -14,8 +14,8 @@ abbrev pub ReadsAs : Disk → Disk → Type 0
 ReadsAs before after = (name : List ℕ) → reads after name ≡ reads before name
 
 -- The file that was begun stays, and isn't certainly on the disk: it is empty, where the device
--- failed in making it; or the device has failed twice, as the file was written and as it was to be
--- removed.
+-- failed in making it; or the device has failed twice, as far as its count goes: as the file was
+-- written and as it was to be removed.
 pub record StaysBegun (first last : ℕ) (name : List ℕ) (before after : Disk) : Type 0 where
   pub bytes : List ℕ
   pub none : before name ≡ None

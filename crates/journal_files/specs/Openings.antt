@@ -5,7 +5,7 @@ use Rattle.disk_files.specs.Moments.{History, LeavesOnly, now}
 use Rattle.disk_files.specs.declared.dir.FileNo.{FileNo}
 use Rattle.buffer_state.specs.State.{State}
 use Rattle.buffer_state.specs.Steps.{settled, reopened}
-use Rattle.journal_files.specs.Folders.{journal_name, Opens, IsNext, OpensWithin}
+use Rattle.journal_files.specs.Folders.{journal_name, Opens, IsDamagedFolder, IsNext, OpensWithin}
 use Rattle.journal_files.specs.JournalLogs.{JournalLog, new_generation, state_of}
 use Rattle.journal_files.specs.Views.{OpenJournal, IsOpenIn, HasShortTags}
 use Rattle.journal_files.specs.Disks.{Keeps, Recovers, HasNoGap}
@@ -32,13 +32,12 @@ pub record IsFresh (path : List ℕ) (opened : FileNo → Option (List ℕ)) (jo
   pub starts : settled (state_of (new_generation chunks)) ≡ reopened chunks
   pub tags : HasShortTags chunks
 
--- Why an opening is refused, and what it leaves to be read then. A damaged folder means nothing,
--- and one that recovers is never damaged; and where the last generation is there, none is read.
--- Only after a `Fault` may anything have changed: then the folder reads as before, but for what is
--- left of the next generation.
+-- Why an opening is refused, and what it leaves to be read then. A folder that recovers is never
+-- damaged; and where the last generation is there, none is read. Only after a `Fault` may anything
+-- have changed: then the folder reads as before, but for what is left of the next generation.
 pub record IsRefused (path : List ℕ) (faults new_faults : ℕ) (old new : Disk)
     (refused : JournalError) : Type 0 where
-  pub damaged : refused ≡ Damaged → (state : State) → Opens path (reads old) state → ⊥
+  pub damaged : refused ≡ Damaged → IsDamagedFolder path (reads old)
   pub undamaged : (t : JournalLog) → Recovers path old t → refused ≢ Damaged
   pub last : refused ≡ LastGeneration → IsSome (reads old (journal_name path (2 ^ 32 - 1)))
   pub unread : IsSome (reads old (journal_name path (2 ^ 32 - 1))) → refused ≢ Damaged
