@@ -39,7 +39,7 @@ pub record IsFirstLine (Breaks : ℕ → ℕ → Type 0) (place line : ℕ) : Ty
   pub lines_before : (l : ℕ) → l < line → ¬ Breaks place l
 
 -- Each other output of the relay that shares a path with the output at this place stands in a later
--- line.
+-- line. Where it is so of each output, no two share one.
 abbrev pub IsFirstOfPath : {A : Type 0} → Network A → ℕ → ℕ → ℕ → ℕ → Output A → Type 0
 IsFirstOfPath {A} net place scope rule output found = (s r o : ℕ) (other : Output A)
     → output_in_rule net place s r o ≡ Some other
@@ -57,6 +57,10 @@ asked {X} Stands P = record {
   kept = (x : X) → Stands x → P x;
   broken = (x : X) × Stands x × ¬ P x;
 }
+
+-- nothing is asked
+abbrev pub nothing_asked : Asked
+nothing_asked = record { kept = Unit {0}; broken = ⊥ }
 
 -- what a rule asks in a line of the configuration of the relay at this place
 abbrev pub asked_in_conf : {A : Type 0} → Subject A → Rule → ℕ → ℕ → Asked
@@ -76,9 +80,12 @@ asked_in_conf s rule.PathsAreDistinct place line =
 asked_in_conf s rule.NoRelabelCycle place line =
     asked (OutputStands s.net place line)
     (λ x. IsOnNoCycle s.net s.reaches place x.0 x.1 x.3)
-asked_in_conf s _ place line = record { kept = Unit {0}; broken = ⊥ }
+asked_in_conf s rule.AddressesAreDistinct place line = nothing_asked
+asked_in_conf s rule.ClientsAreLabelled place line = nothing_asked
+asked_in_conf s rule.LabelsAreMatched place line = nothing_asked
+asked_in_conf s rule.ReachesCover place line = nothing_asked
 
--- what it asks in a line of the plan; a client without a line stands in line 0
+-- what it asks in a line of the plan; of a client without a line it is asked in line 0
 abbrev pub asked_in_plan : {A : Type 0} → Subject A → Rule → ℕ → Asked
 asked_in_plan {A} s rule.ClientsAreLabelled line =
     asked {X = ℕ × Client A} (λ x. (slice_get s.net.clients x.0 ≡ Some x.1)
@@ -89,7 +96,13 @@ asked_in_plan s rule.LabelsAreMatched line =
 asked_in_plan s rule.ReachesCover line =
     asked (λ label. Contains s.labels label × (label.line ≡ line))
     (IsCoveredLabel s.net s.reaches)
-asked_in_plan s _ line = record { kept = Unit {0}; broken = ⊥ }
+asked_in_plan s rule.AddressesAreDistinct line = nothing_asked
+asked_in_plan s rule.ServersAreSources line = nothing_asked
+asked_in_plan s rule.ReachedMatchesKeep line = nothing_asked
+asked_in_plan s rule.RelabelsAreLabelled line = nothing_asked
+asked_in_plan s rule.ForwardsAreLabelled line = nothing_asked
+asked_in_plan s rule.PathsAreDistinct line = nothing_asked
+asked_in_plan s rule.NoRelabelCycle line = nothing_asked
 
 -- Numbers, folders and addresses: each relay's line of the plan, then its sources, then the next
 -- relay.
@@ -136,8 +149,8 @@ IsKept s rule.AddressesAreDistinct = AddressesAreDistinct s.net s.relay_lines
 IsKept s each = ((line : ℕ) → (asked_in_plan s each line).kept)
     × ((place line : ℕ) → (asked_in_conf s each place line).kept)
 
--- The rule is broken, and first at this place: in the first line of the plan; or in the first relay
--- in which it is broken anywhere, and in the first such line of its configuration.
+-- The rule is broken, and first at this place: in the first such line of the plan; or in the first
+-- relay in which it is broken anywhere, and in the first such line of its configuration.
 abbrev pub IsBrokenAt : {A : Type 0} → Subject A → Rule → Place → Type 0
 IsBrokenAt s rule.AddressesAreDistinct at = IsFirstTwice s.net s.relay_lines at
 IsBrokenAt s each (place.Plan line) = (asked_in_plan s each line).broken

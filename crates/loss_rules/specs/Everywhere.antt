@@ -39,7 +39,8 @@ BreaksAtServer net P place line =
 -- In this line of the plan this isn't so of a client.
 abbrev pub BreaksAtClient : {A : Type 0} → Network A → List ℕ → (Client A → Type 0) → ℕ → Type 0
 BreaksAtClient {A} net lines P line =
-    (asked {X = ℕ × Client A} (λ x. (slice_get net.clients x.0 ≡ Some x.1) × (slice_index_or lines x.0 0 ≡ line))
+    (asked {X = ℕ × Client A}
+    (λ x. (slice_get net.clients x.0 ≡ Some x.1) × (slice_index_or lines x.0 0 ≡ line))
     (λ x. P x.1)).broken
 
 -- Of a label.

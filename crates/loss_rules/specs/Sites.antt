@@ -52,16 +52,17 @@ line_of (output.Relabel target line) = line
 line_of (output.Forward settings line) = line
 line_of (output.File settings line) = line
 
--- What stands in this line of the configuration of the relay at this place, behind the places of its
--- scope and in it: a match, an output, a server of an output.
-
+-- In this line of the configuration of the relay at this place stands this match, with the places
+-- of its scope and of itself.
 abbrev pub MatchStands : {A : Type 0} → Network A → ℕ → ℕ → ℕ × ℕ × MatchRule A → Type 0
 MatchStands net place line x = (rule_at net place x.0 x.1 ≡ Some x.2) × (x.2.line ≡ line)
 
+-- There stands this output, with the places of its scope, of its match and of itself.
 abbrev pub OutputStands : {A : Type 0} → Network A → ℕ → ℕ → ℕ × ℕ × ℕ × Output A → Type 0
 OutputStands net place line x = (output_in_rule net place x.0 x.1 x.2 ≡ Some x.3)
     × (line_of x.3 ≡ line)
 
+-- There stands this server, with the places of the scope, the match and the output that has it.
 abbrev pub ServerStands : {A : Type 0} → Network A → ℕ → ℕ → ℕ × ℕ × ℕ × Output A × Server A
     → Type 0
 ServerStands net place line x = (output_in_rule net place x.0 x.1 x.2 ≡ Some x.3)
