@@ -2,6 +2,7 @@
 
 ghost use Rattle.std.specs.Prelude.{◌↔◌, slice_get, IfOk, IsSomeAnd, IsTrue};
 ghost use Rattle.custody_core.specs.Custody.{IsKeptAs};
+ghost use Rattle.custody_steps.specs.WorldOf.{net_of};
 
 use custody_steps::World;
 use loss_rules::Duty;
@@ -17,7 +18,7 @@ pub fn is_kept_as<A: Allocator + Copy>(
 ) -> Result<bool, AllocError>
     ensures { IfOk result
         (λ yes. IsTrue yes ↔ IsSomeAnd (slice_get world.now.shown.world.acknowledged number)
-        (IsKeptAs duty world.now.net.now world.now.shown.world)) }
+        (IsKeptAs duty (net_of world.now) world.now.shown.world)) }
 {
     match duty {
         Duty::Any => Ok(world.kept(number)?.unwrap_or(false)),

@@ -5,6 +5,7 @@ ghost use Rattle.custody_core.specs.Custody.{EachBranchKeeps, NothingIsLost, Not
 ghost use Rattle.custody_core.specs.Onward.{AreHeldOnward};
 ghost use Rattle.custody_steps.specs.Steps.{Steps, IsRefusedAt};
 ghost use Rattle.custody_steps.specs.World.{initial_world};
+ghost use Rattle.custody_steps.specs.WorldOf.{net_of};
 ghost use Rattle.loss_rules.specs.Breaks.{Subject, AreKeepingRulesKept};
 ghost use Rattle.loss_rules.specs.Sites.{BuffersAreDistinct};
 ghost use Rattle.loss_rules.specs.declared.label.Duty.TheVariants.{Every};
@@ -25,14 +26,14 @@ use step_lines::Step;
 /// What was acknowledged, to chunks too, is held by sinks and by chunks of buffers that keep, which
 /// are staged or rank above the chunk that sent it: a chunk's rank is the place of the first step
 /// that queues it.
-/// Where besides each output of each reached match keeps or is a relabel, each buffer that the
-/// event comes to keeps it, or what it was forwarded to does.
+/// Where the rules hold under the duty that each output of a reached match keeps or is a relabel,
+/// each buffer that the event comes to keeps it, or what it was forwarded to does.
 pub fn run<'n, A: Allocator + Copy>(
     alloc: A,
     net: &'n Net<A>,
     steps: &[Step<A>],
 ) -> Result<World<'n, A>, (usize, StepFault)>
-    ensures net { IfOk result (λ w. w.net.now ≡ net.now) }
+    ensures net { IfOk result (λ w. net_of w ≡ net.now) }
     ensures taken { IfOk result (λ w. Steps net.now initial_world steps.now w.shown.world) }
     ensures refused { IfErr result (λ e. IsRefusedAt net.now steps.now e.0 e.1) }
     ensures labelled_nothing_is_lost { (s : Subject A) → s.net ≡ net.now

@@ -31,7 +31,8 @@ world_from places book = record {
   acknowledged = book.acknowledged;
 }
 
--- The world that these stand for, of which clauses speak without saying how they do.
+-- The world that these stand for. Clauses of calls speak of it alone, and all in one way, so that
+-- how it is kept matters to none of them.
 pub record Shown {A : Type 0} (places : Places A) (book : Book) : Type 0 where
   pub world : World
   pub is : world ≡ world_from places book

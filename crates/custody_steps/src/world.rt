@@ -59,7 +59,7 @@ impl<'n, A: Allocator + Copy> World<'n, A> {
 
     /// The network before the first step: nothing was sent, and all buffers and sinks are empty.
     pub fn new(alloc: A, net: &'n Net<A>) -> Self
-        ensures net { result.net.now ≡ net.now }
+        ensures net { net_of result ≡ net.now }
         ensures opening { result.shown.world ≡ initial_world }
     {
         World {
@@ -91,7 +91,7 @@ impl<'n, A: Allocator + Copy> World<'n, A> {
     /// going through it again. It changes no answer. An `Err` leaves all to be gone through as
     /// before.
     pub fn collect(&mut self) -> Result<(), AllocError>
-        ensures net { self.new.net.now ≡ self.old.net.now }
+        ensures net { net_of self.new ≡ net_of self.old }
         ensures same { self.new.shown.world ≡ self.old.shown.world }
     {
         self.spots = self.places.spots()?;
@@ -105,7 +105,7 @@ impl<'n, A: Allocator + Copy> World<'n, A> {
     /// where the event isn't there, it looks at all that is held.
     pub fn kept(&self, number: usize) -> Result<Option<bool>, AllocError>
         ensures { IfOk result
-            (λ answer. IsKeptAnswer self.now.net.now self.now.shown.world number answer) }
+            (λ answer. IsKeptAnswer (net_of self.now) self.now.shown.world number answer) }
     {
         self.kept_so(false, number)
     }
@@ -236,7 +236,7 @@ impl<'n, A: Allocator + Copy> World<'n, A> {
     /// It goes through all messages that were sent once for each that is found to be kept.
     pub fn kept_every(&self, number: usize) -> Result<Option<bool>, AllocError>
         ensures { IfOk result
-            (λ answer. IsKeptEveryAnswer self.now.net.now self.now.shown.world number answer) }
+            (λ answer. IsKeptEveryAnswer (net_of self.now) self.now.shown.world number answer) }
     {
         self.kept_so(true, number)
     }
@@ -265,7 +265,7 @@ impl<'n, A: Allocator + Copy> World<'n, A> {
     /// there is none.
     pub fn sink(&self, relay: u64, buffer: u64) -> &[Event<A>]
         ensures { stored_events result.now
-            ≡ sink_named self.now.net.now self.now.shown.world relay buffer }
+            ≡ sink_named (net_of self.now) self.now.shown.world relay buffer }
     {
         match self.net.place(relay) {
             Some(place) => self.places.sink(place, buffer as usize),
@@ -335,13 +335,13 @@ impl<'n, A: Allocator + Copy> World<'n, A> {
     /// moves, the way of the message, the buffers of a relay that starts again, and the serials
     /// that `oldest` passes, each once between restarts.
     pub fn step(&mut self, step: &Step<A>) -> Result<(), StepFault>
-        ensures net { self.new.net.now ≡ self.old.net.now }
+        ensures net { net_of self.new ≡ net_of self.old }
         ensures ok { OnOk result
-            ((rule_of_step self.old.net.now self.old.shown.world step.now).names
-            × (rule_of_step self.old.net.now self.old.shown.world step.now).allowed
+            ((rule_of_step (net_of self.old) self.old.shown.world step.now).names
+            × (rule_of_step (net_of self.old) self.old.shown.world step.now).allowed
             × (self.new.shown.world
-            ≡ (rule_of_step self.old.net.now self.old.shown.world step.now).after)) }
-        ensures refused { IfErr result (IsRefused self.old.net.now self.old.shown.world step.now) }
+            ≡ (rule_of_step (net_of self.old) self.old.shown.world step.now).after)) }
+        ensures refused { IfErr result (IsRefused (net_of self.old) self.old.shown.world step.now) }
         ensures unchanged { OnErr result (self.new.shown.world ≡ self.old.shown.world) }
     {
         self.take(step)

@@ -1,6 +1,7 @@
 //! Whether steps lose an acknowledged event. Of a text it is said only where it is so.
 
 ghost use Rattle.std.specs.Prelude.{◌≡◌, ◌≢◌, ◌↔◌, false, IfOk, IfSome, IsSome, IsTrue};
+ghost use Rattle.custody_steps.specs.WorldOf.{net_of};
 ghost use Rattle.loss_search.specs.Losses.{HasLost, IsLosingText, Loses};
 
 use custody_core::{Step, StepFault, StepsError, World, is_kept_as, run};
@@ -92,7 +93,7 @@ fn refused(fault: StepFault) -> Result<bool, AllocError>
 // Whether one of the events that were acknowledged isn't kept as is asked.
 fn has_lost<A: Allocator + Copy>(world: &World<'_, A>, duty: Duty) -> Result<bool, AllocError>
     ensures { IfOk result
-        (λ yes. IsTrue yes ↔ HasLost duty world.now.net.now world.now.shown.world) }
+        (λ yes. IsTrue yes ↔ HasLost duty (net_of world.now) world.now.shown.world) }
 {
     for number in 0..world.acknowledged().len() {
         if !is_kept_as(world, duty, number)? {

@@ -4,6 +4,7 @@ ghost use Rattle.std.specs.Prelude.{◌≡◌, ◌++◌, ◌↔◌, ℕ, Bool, L
 ghost use Rattle.std.specs.List.{AllZip};
 ghost use Rattle.custody_core.specs.Custody.{IsKeptAs};
 ghost use Rattle.custody_store.specs.Contents.{event_of};
+ghost use Rattle.custody_steps.specs.WorldOf.{net_of};
 ghost use Rattle.loss_rules.specs.Breaks.{IsAnswer};
 ghost use Rattle.loss_rules.specs.declared.answer.Answer.{Answer};
 ghost use Rattle.plan_answers.specs.Replays.{fate_line, IsCodeOf, IsWorldListing, IsReplayed};
@@ -25,8 +26,8 @@ pub struct Said<A: Allocator> {
 /// Takes the steps of the text, one after another, in the plan's network before its first step, and
 /// lists what becomes of the events that they acknowledge; or which step is refused first; or which
 /// line is of no step's form. The only error is want of memory. An event is lost where it isn't
-/// kept as the plan asks. Whichever answer the plan has, steps are taken; under a yes nothing is
-/// lost.
+/// kept as the plan asks. Whichever answer the plan has, steps are taken, and the clause is told
+/// it; under a yes nothing is lost.
 pub fn replay<A: Allocator + Copy>(
     alloc: A,
     plan: &Plan<A>,
@@ -102,7 +103,7 @@ fn list_world<A: Allocator + Copy>(
     steps: usize,
 ) -> Result<Said<A>, AllocError>
     ensures { IfOk result
-        (λ said. IsWorldListing duty world.now.net.now
+        (λ said. IsWorldListing duty (net_of world.now)
         world.now.shown.world steps said.lines.items said.status) }
 {
     let mut said = list_fates(alloc, world, duty)?;
@@ -153,7 +154,7 @@ fn list_fates<A: Allocator + Copy>(
 ) -> Result<Fates<A>, AllocError>
     ensures { IfOk result (λ listed. (held : List Bool)
         × AllZip (λ told is_held. IsTrue is_held
-        ↔ IsKeptAs duty world.now.net.now world.now.shown.world told)
+        ↔ IsKeptAs duty (net_of world.now) world.now.shown.world told)
         world.now.shown.world.acknowledged held
         × (listed.lines.items ≡ flat_map fate_line (zip world.now.shown.world.acknowledged held))
         × (listed.lost ≡ count_by not held)) }

@@ -5,6 +5,7 @@ use Rattle.custody_steps.specs.declared.fault.StepFault.TheVariants as fault
 use Rattle.relay_net.specs.Network.{Network}
 use Rattle.loss_search.specs.Losses.{HasLost, Loses}
 use Rattle.loss_search.proofs.LosingSteps.{loses_where_lost, refused_loses_none}
+use Rattle.custody_steps.specs.WorldOf.{net_of}
 use Rattle.loss_search.proofs.losing.loses_event.Goals as goal
 
 pub returns-in-Ok : goal.returns-in-Ok
@@ -13,7 +14,7 @@ returns-in-Ok g c =
     let steps = c.args.steps.now in
     let w = c.in-Ok.world.shown.world in
     IfOk-weaker c.has_lost.result
-    (λ is_so. IsTrue is_so ↔ HasLost c.args.duty c.in-Ok.world.net.now w)
+    (λ is_so. IsTrue is_so ↔ HasLost c.args.duty (net_of c.in-Ok.world) w)
     (λ is_so. IsTrue is_so ↔ Loses c.args.duty net steps)
     (λ is_so lost. loses_where_lost c.args.duty net steps w is_so c.in-Ok.ensures.taken
     (subst (λ (n : Network _). IsTrue is_so ↔ HasLost c.args.duty n w) c.in-Ok.ensures.net lost))

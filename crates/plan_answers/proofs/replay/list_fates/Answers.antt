@@ -2,11 +2,12 @@ use Rattle.std.proofs.Common.{◌≡◌, ◌≤◌, ◌+◌, ap, sym, ◌∙◌,
 use Rattle.std.proofs.lemmas.List.{take_all}
 use Rattle.plan_answers.proofs.Fates.{listed_all, listed_more, held_event}
 use Rattle.plan_answers.proofs.replay.list_fates.Goals.{then-not-is_held, else-not-is_held}
+use Rattle.custody_steps.specs.WorldOf.{net_of}
 use Rattle.plan_answers.proofs.replay.list_fates.Goals as goal
 
 pub loop-number-preserved : goal.loop-number-preserved
 loop-number-preserved g c =
-    let net = c.args.world.now.net.now in
+    let net = net_of c.args.world.now in
     let w = c.args.world.now.shown.world in
     let is_held = c.in_ok-is_held.is_held in
     let lost : c.if-not-is_held.lost ≡ c.loop-number.lost + cond is_held 0 1 = elim c.if-not-is_held.branch [
@@ -25,5 +26,5 @@ loop-number-preserved g c =
 pub returns : goal.returns
 returns g c =
     let events = c.acknowledged-events.result.now in
-    listed_all c.args.duty c.args.world.now.net.now c.args.world.now.shown.world events c.loop-number.number c.loop-number.lines.items c.loop-number.lost
+    listed_all c.args.duty (net_of c.args.world.now) c.args.world.now.shown.world events c.loop-number.number c.loop-number.lines.items c.loop-number.lost
     c.acknowledged-events.ensures (take_all c.loop-number.number events c.loop-number-test.false) c.loop-number.invariant
