@@ -7,7 +7,8 @@ use Rattle.relay_conf.specs.declared.relay.Scope.{Scope}
 use Rattle.relay_ports.specs.declared.buffered.BufferedOutput.{BufferedOutput}
 use Rattle.relay_ports.specs.Outputs.{buffered}
 
--- an output of the configuration with all that is said of it as a list, empty where it has no buffer
+-- an output of the configuration that has a buffer, with all that is said of it; none where it has
+-- none
 abbrev pub listed : {A : Type 0} → Output A → List (BufferedOutput A)
 listed found = option_to_list (buffered found)
 

@@ -60,8 +60,8 @@ abbrev pub IsCarriedBy : {S : Type 0} → (origin : S → Origin) → (traffic :
 IsCarriedBy origin traffic (Servers sender) claim shown = IsSent origin traffic sender claim shown
 IsCarriedBy origin traffic (Sink courier placed) claim shown = IsStoredFor claim shown
 
--- a relay that runs: its sources, the addresses at which its loop listens, the buffers that its loop
--- has, the ports of its sources, and what delivers the chunks of its outputs
+-- a relay that runs: its sources, the addresses at which its loop listens, the buffers that its
+-- loop has, the ports of its sources, and what delivers the chunks of its outputs
 pub record RelayState : Type 0 where
   pub sources : List Served
   pub bound : List Endpoint
@@ -100,9 +100,9 @@ first_fault fault pools =
     slice_get (flat_map option_to_list (fault ∷ map (λ pool. fault_of pool.done) pools)) 0
 
 -- What runs is this relay, whole, under this number and with its files in this folder. It takes
--- messages in at the address of each of its sources, and nowhere else; it has a buffer for each of its
--- outputs that have one, and each of these has what delivers its chunks, from the very buffer that the
--- loop has for it.
+-- messages in at the address of each of its sources, and nowhere else; it has a buffer for each of
+-- its outputs that have one, and each of these has what delivers its chunks, from the very buffer
+-- that the loop has for it.
 pub record Runs (folder : List ℕ) (number : ℕ) (relay : Relay heap.the_row.Denot)
     (state : RelayState) : Type 0 where
   pub sources : state.sources ≡ map (served_as number (table_of relay)) relay.sources.items
