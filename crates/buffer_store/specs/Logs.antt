@@ -1,5 +1,5 @@
 -- The journal of a buffer in its folder, and what one record more makes of it. (Words of private
--- functions.)
+-- functions; `Flags` serves receipts too.)
 use Rattle.std.specs.Prelude.{ℕ, ◌≡◌, ◌≢◌, ◌⊎◌, ◌↔◌, ◌≤◌, ◌+◌, ◌^◌, ◌||◌, Bool, true, false, cond, List, Option, None, Result, Vec, IfOk, OnOk, OnErr, Err}
 use Rattle.disk_files.specs.Disk.{SameDisk, reads}
 use Rattle.disk_files.specs.Moments.{History, Elapses, LeavesOnly, now}

@@ -1,8 +1,9 @@
 -- What holds of journals on a disk, apart from any call.
-use Rattle.std.specs.Prelude.{ℕ, ◌≡◌, List}
+use Rattle.std.specs.Prelude.{ℕ, ◌≡◌, ◌↔◌, List}
 use Rattle.disk_files.specs.Disk.{Disk, Folder, after_stop}
 use Rattle.buffer_state.specs.State.{State}
-use Rattle.journal_files.specs.Folders.{Opens, IsDamagedFolder}
+use Rattle.chunk_journal.specs.Meaning.{IsReplayed}
+use Rattle.journal_files.specs.Folders.{Opens, IsDamagedFolder, IsSealed}
 use Rattle.journal_files.specs.JournalLogs.{JournalLog}
 use Rattle.journal_files.specs.Views.{OpenJournal}
 use Rattle.journal_files.specs.Disks.{Keeps, Recovers, HasNoStray, HasNoGap}
@@ -35,3 +36,8 @@ OpensOneWay = (path : List ℕ) (folder : Folder) (one other : State) → Opens 
 abbrev pub OpensUndamaged : Type 0
 OpensUndamaged = (path : List ℕ) (folder : Folder) (state : State) → Opens path folder state
     → IsDamagedFolder path folder → ⊥
+
+-- what a generation means that an opening reads is what its records tell one after another
+abbrev pub SealedIsReplayed : Type 0
+SealedIsReplayed = (bytes : List ℕ) (state : State)
+    → IsSealed bytes state ↔ ((used : ℕ) × IsReplayed bytes state used)

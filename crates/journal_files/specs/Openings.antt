@@ -34,7 +34,8 @@ pub record IsFresh (path : List ℕ) (opened : FileNo → Option (List ℕ)) (jo
 
 -- Why an opening is refused, and what it leaves to be read then. A folder that recovers is never
 -- damaged; and where the last generation is there, none is read. Only after a `Fault` may anything
--- have changed: then the folder reads as before, but for what is left of the next generation.
+-- have changed: then the folder reads as before, but for what is left of the next generation; and
+-- where that one is whole, older ones may be gone.
 pub record IsRefused (path : List ℕ) (faults new_faults : ℕ) (old new : Disk)
     (refused : JournalError) : Type 0 where
   pub damaged : refused ≡ Damaged → IsDamagedFolder path (reads old)

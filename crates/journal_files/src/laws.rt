@@ -1,6 +1,6 @@
 //! What holds of journals on a disk. These functions do nothing: each stands for a theorem.
 
-ghost use Rattle.journal_files.specs.Laws.{RecoversAll, OpensOneWay, OpensUndamaged, KeepsNoStray, LeavesNoStray, StrayIsGap};
+ghost use Rattle.journal_files.specs.Laws.{RecoversAll, OpensOneWay, OpensUndamaged, SealedIsReplayed, KeepsNoStray, LeavesNoStray, StrayIsGap};
 
 use chunk_journal::{answers_one_way, cuts_generation, cuts_whole};
 use numbered_files::names_differ;
@@ -24,10 +24,12 @@ pub fn has_no_stray()
     ensures gap { StrayIsGap }
 {}
 
-/// A folder opens to one state, and one that opens isn't damaged.
+/// A folder opens to one state, and one that opens isn't damaged; what it opens to is what the
+/// records of the generation tell, as whoever lists them reads them.
 pub fn opens_one_way()
     ensures one { OpensOneWay }
     ensures undamaged { OpensUndamaged }
+    ensures replayed { SealedIsReplayed }
 {
     // Called for its law alone.
     answers_one_way();
