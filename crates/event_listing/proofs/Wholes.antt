@@ -1,5 +1,5 @@
 -- Items by their heads: each is wholly of its kind.
-use Rattle.std.proofs.Common.{ℕ, ℤ, ◌≡◌, Bool, true, false, List, [], ◌∷◌, ◌++◌, slice_range, drop, Option, Some, refl, sym, subst, ◌∙◌}
+use Rattle.std.proofs.Common.{ℕ, ℤ, ◌≡◌, Bool, true, false, List, [], ◌∷◌, ◌++◌, slice_range, drop, Option, Some, refl, sym, subst, ◌∙◌, inl}
 use Rattle.std.proofs.lemmas.List.{append-nil}
 use Rattle.msgpack_bytes.specs.declared.answers.Head.{Head}
 use Rattle.msgpack_bytes.specs.declared.answers.Head.TheVariants as head
@@ -13,12 +13,12 @@ use Rattle.event_modes.proofs.Heads.{integer_scalar, spells_all, span_front}
 
 nil_scalar : (front : List ℕ) → IsNil front → IsScalar front
 unfolding shape_of
-nil_scalar front e = record { kind = kind.Nil; content = []; spelled = record { header = 0xc0 ∷ []; sized = (refl, refl, refl); whole = e } }
+nil_scalar front e = record { kind = kind.Nil; content = []; spelled = record { header = 0xc0 ∷ []; sized = inl (refl, refl); whole = e } }
 
 bool_scalar : (value : Bool) (front : List ℕ) → IsBool value front → IsScalar front
 unfolding shape_of
-bool_scalar true front e = record { kind = kind.Bool; content = []; spelled = record { header = 0xc3 ∷ []; sized = (refl, refl, refl); whole = e } }
-bool_scalar false front e = record { kind = kind.Bool; content = []; spelled = record { header = 0xc2 ∷ []; sized = (refl, refl, refl); whole = e } }
+bool_scalar true front e = record { kind = kind.Bool; content = []; spelled = record { header = 0xc3 ∷ []; sized = inl (refl, refl); whole = e } }
+bool_scalar false front e = record { kind = kind.Bool; content = []; spelled = record { header = 0xc2 ∷ []; sized = inl (refl, refl); whole = e } }
 
 -- a scalar with which an item begins is all of it
 all_of : (item front back : List ℕ) → IsItemWithin item → IsScalar front → item ≡ front ++ back → front ≡ item
