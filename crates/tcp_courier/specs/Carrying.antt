@@ -2,6 +2,7 @@
 use Rattle.std.specs.Prelude.{ℕ, ◌≡◌, ◌*◌, ◌-◌, ◌^◌, min, map, find, option_map, Contains, List, length, Bool, true, false, Option, Some, string_bytes}
 use Rattle.ack_receipt.specs.Claims.{Claimed, id_of}
 use Rattle.ack_receipt.specs.Evidences.{Shows, Acknowledged, Written}
+use Rattle.relay_conf.specs.declared.output.Server.{Server}
 use Rattle.relay_conf.specs.declared.output.ForwardSettings.{ForwardSettings}
 use Rattle.forward_core.specs.Credentials.{Credentials, credentials_of}
 use Rattle.relay_sockets.specs.Drawing.{IsDrawn}
@@ -18,12 +19,15 @@ pub record Sender (N : Type 0) : Type 0 where
   pub asks : Bool
   pub timeout : ℕ
 
+-- where a server of a configuration is
+abbrev pub endpoint_of : {A : Type 0} → Server A → Endpoint
+endpoint_of server = record { host = string_bytes server.host; port = server.port }
+
 -- the courier of an output with these settings, that connects by this dialer
 abbrev pub sender_of : {A N : Type 0} → ForwardSettings A → (dialer : N) → Sender N
 sender_of settings dialer = record {
   dialer = dialer;
-  servers = map (λ server. record { host = string_bytes server.host; port = server.port })
-      settings.servers.items;
+  servers = map endpoint_of settings.servers.items;
   shows = credentials_of settings.security;
   asks = settings.require_ack_response;
   timeout = min (settings.ack_response_timeout * 1_000) (2 ^ 64 - 1);

@@ -1,9 +1,9 @@
 //! Chunks that go to another relay.
 
-ghost use Rattle.std.specs.Prelude.{◌≡◌, ◌⊎◌, ◌+◌, ◌<◌, ◌^◌, List, ℕ, IfErr, IfOk, IfSome, None, Some, length, map, option_map, string_bytes};
+ghost use Rattle.std.specs.Prelude.{◌≡◌, ◌⊎◌, ◌+◌, ◌<◌, ◌^◌, List, ℕ, IfErr, IfOk, IfSome, None, Some, length, map, option_map};
 ghost use Rattle.std.specs.List.{position_from};
 ghost use Rattle.std.specs.Arc.{arc_value};
-ghost use Rattle.tcp_courier.specs.Carrying.{Delivers, IsToFirst, IsToOne, NamesChunk, sender_of};
+ghost use Rattle.tcp_courier.specs.Carrying.{Delivers, IsToFirst, IsToOne, NamesChunk, endpoint_of, sender_of};
 ghost use Rattle.tcp_courier.specs.Turns.{by_server, in_turn, place_in_turn, turn_after, turn_behind};
 ghost use Rattle.tcp_courier.specs.Talks.{begun};
 ghost use Rattle.relay_sockets.specs.Drawing.{IsDrawn};
@@ -400,9 +400,7 @@ fn endpoints_of<A: Allocator + Copy, B: Allocator>(
     alloc: A,
     servers: &[Server<B>],
 ) -> Result<Vec<Endpoint<A>, A>, AllocError>
-    ensures { IfOk result (λ endpoints. endpoints.items
-        ≡ map (λ server. record { host = string_bytes server.host; port = server.port })
-        servers.now) }
+    ensures { IfOk result (λ endpoints. endpoints.items ≡ map endpoint_of servers.now) }
 {
     let mut endpoints = Vec::with_capacity(alloc, servers.len())?;
     for server in servers {
