@@ -1,22 +1,41 @@
-//! A buffer in a folder of the system: entries are appended, listed, staged and queued.
+//! A buffer in a folder of the system: entries are appended, listed and staged; and one in memory,
+//! whose chunks are queued.
 
+use crate::puts::put;
 use buffer_state::Limits;
-use buffer_store::{Buffer, RENEWED_PAST_IN_FILES, Settings};
+use buffer_store::{Buffer, BufferFault, RENEWED_PAST_IN_FILES, Settings};
 use disk_files::{Dir, MemoryDir, RealDir};
 use event_modes::Entries;
-use std::alloc::Global;
-use std::io;
+use std::alloc::{AllocError, Allocator};
+use std::io::Print;
 
 // A stored entry is an array of two, an unsigned time of eight bytes and an empty map.
-const ENTRY_LEN: usize = 11;
+const ENTRY_LEN: u32 = 11;
 
 // Each chunk gets so many entries before it is queued.
 const QUEUED_AT: u64 = 8;
 
-// A chunk takes so many bytes of entries at most.
-const CHUNK_LIMIT: u64 = 262_144;
+const TAG: &[u8] = b"trial";
 
-// What is done with the buffer in a folder.
+// A chunk takes so many bytes of entries at most.
+const IN_FILES: Settings = Settings {
+    limits: Limits {
+        chunk: 262_144,
+        total: 2_147_483_648,
+    },
+    renewed_past: RENEWED_PAST_IN_FILES,
+};
+
+// A chunk takes one entry.
+const IN_MEMORY: Settings = Settings {
+    limits: Limits {
+        chunk: ENTRY_LEN as u64,
+        total: u64::MAX,
+    },
+    renewed_past: u64::MAX,
+};
+
+// What is done with a buffer.
 #[derive(Clone, Copy)]
 enum Word {
     Append,
@@ -25,18 +44,17 @@ enum Word {
     Churn,
     Open,
     Renew,
-    Stage,
+    Queue,
 }
 
-// Each word, and how many counts are given behind the folder.
-static WORDS: [(&str, usize, Word); 7] = [
+// Each word for a buffer in a folder, and how many counts are given behind the folder.
+static WORDS: [(&str, usize, Word); 6] = [
     ("append", 0, Word::Append),
     ("list", 0, Word::List),
-    ("fill", 2, Word::Fill),
+    ("fill", 3, Word::Fill),
     ("churn", 2, Word::Churn),
     ("open", 0, Word::Open),
     ("renew", 0, Word::Renew),
-    ("stage", 3, Word::Stage),
 ];
 
 // How many entries, of how many bytes each, and how many for one sync; what isn't given is 0.
@@ -47,259 +65,166 @@ struct Counts {
     each: u32,
 }
 
-// The numbers of the entries in these bytes.
-fn numbers_in(bytes: &[u8], numbers: &mut Vec<u64>) -> io::Result<()> {
-    for entry in bytes.chunks_exact(ENTRY_LEN) {
-        if let [0x92, 0xcf, a, b, c, d, e, f, g, h, 0x80] = entry {
-            numbers.push(u64::from_be_bytes([*a, *b, *c, *d, *e, *f, *g, *h]))?;
-        }
-    }
-    Ok(())
-}
-
 // The entry of this number.
-fn entry_of(rt: &HostRuntime, number: u64) -> io::Result<Entries<Global>> {
+fn numbered<A: Allocator + Copy>(alloc: A, number: u64) -> Result<Option<Entries<A>>, AllocError> {
     let [a, b, c, d, e, f, g, h] = number.to_be_bytes();
-    let bytes = [0x92, 0xcf, a, b, c, d, e, f, g, h, 0x80];
-    match Entries::read(rt.alloc(), &bytes, 1)? {
-        Some(entries) => Ok(entries),
-        None => Err(io::ErrorKind::InvalidData.into()),
-    }
-}
-
-// The buffer in this folder.
-fn open<D: Dir + Drop>(
-    rt: &HostRuntime,
-    dir: D,
-    settings: Settings,
-) -> io::Result<Buffer<D, Global>> {
-    match Buffer::open(rt.alloc(), dir, b"trial", settings) {
-        Ok(buffer) => Ok(buffer),
-        Err((fault, _)) => {
-            println!(rt; "fault {fault}")?;
-            Err(io::ErrorKind::Other.into())
-        }
-    }
-}
-
-// The serials of the live chunks.
-fn serials<D: Dir>(rt: &HostRuntime, buffer: &Buffer<D, Global>) -> io::Result<Vec<u64>> {
-    let mut serials = Vec::new(rt.alloc());
-    for facts in buffer.chunks().iter() {
-        serials.push(facts.serial)?;
-    }
-    Ok(serials)
-}
-
-// The entries of the chunk of this serial.
-fn body<D: Dir>(buffer: &mut Buffer<D, Global>, serial: u64) -> io::Result<Entries<Global>> {
-    buffer.body(serial).map_err(|_| io::ErrorKind::Other.into())
-}
-
-// The numbers of all entries in live chunks.
-fn numbers<D: Dir>(rt: &HostRuntime, buffer: &mut Buffer<D, Global>) -> io::Result<Vec<u64>> {
-    let serials = serials(rt, buffer)?;
-    let mut numbers = Vec::new(rt.alloc());
-    for serial in &serials {
-        let entries = body(buffer, *serial)?;
-        numbers_in(entries.as_bytes(), &mut numbers)?;
-    }
-    Ok(numbers)
-}
-
-// Appends entries, and gives the serial of their chunk, if the buffer took them.
-fn add<D: Dir>(buffer: &mut Buffer<D, Global>, entries: &Entries<Global>) -> Option<u64> {
-    if entries.count() == 0 {
-        return None;
-    }
-    match buffer.append(b"trial", entries) {
-        Ok(appended) => Some(appended.serial),
-        Err(_) => None,
-    }
-}
-
-// Stages entries, and gives the serial of their chunk, if the buffer took them.
-fn stage<D: Dir>(buffer: &mut Buffer<D, Global>, entries: &Entries<Global>) -> Option<u64> {
-    if entries.count() == 0 {
-        return None;
-    }
-    match buffer.stage(b"trial", entries) {
-        Ok(appended) => Some(appended.serial),
-        Err(_) => None,
-    }
-}
-
-// Whether the chunk of this serial is queued.
-fn queue<D: Dir>(buffer: &mut Buffer<D, Global>, serial: u64) -> bool {
-    buffer.enqueue(serial).is_ok()
-}
-
-// Claims the first of the queue.
-fn claim<D: Dir>(buffer: &mut Buffer<D, Global>) -> Option<u64> {
-    buffer.claim()
-}
-
-// Whether the claimed chunk of this serial goes.
-fn purge<D: Dir>(buffer: &mut Buffer<D, Global>, serial: u64) -> bool {
-    buffer.purge(serial).is_ok()
-}
-
-// Whether what was staged is synced.
-fn sync<D: Dir>(buffer: &mut Buffer<D, Global>) -> bool {
-    buffer.sync().is_ok()
-}
-
-// Appends the entry of this number, and queues its chunk where it is the last of some.
-fn append<D: Dir>(
-    rt: &HostRuntime,
-    buffer: &mut Buffer<D, Global>,
-    number: u64,
-) -> io::Result<bool> {
-    let entries = entry_of(rt, number)?;
-    let Some(serial) = add(buffer, &entries) else {
-        return Ok(false);
-    };
-    println!(rt; "{number}")?;
-    Ok(number % QUEUED_AT != QUEUED_AT - 1 || queue(buffer, serial))
-}
-
-fn append_all<D: Dir>(rt: &HostRuntime, buffer: &mut Buffer<D, Global>) -> io::Result<u8> {
-    let first = match numbers(rt, buffer)?.iter().max() {
-        Some(last) => last.saturating_add(1),
-        None => 0,
-    };
-    for number in first..u64::MAX {
-        if !append(rt, buffer, number)? {
-            return Ok(1);
-        }
-    }
-    Ok(0)
-}
-
-fn list<D: Dir>(rt: &HostRuntime, buffer: &mut Buffer<D, Global>) -> io::Result<u8> {
-    for number in &numbers(rt, buffer)? {
-        println!(rt; "{number}")?;
-    }
-    Ok(0)
+    Entries::read(alloc, &[0x92, 0xcf, a, b, c, d, e, f, g, h, 0x80], 1)
 }
 
 // An entry of so many bytes, or a few more: time 0, and a record with one value.
-fn sized_entry(rt: &HostRuntime, size: u32) -> io::Result<Entries<Global>> {
+fn sized<A: Allocator + Copy>(alloc: A, size: u32) -> Result<Option<Entries<A>>, AllocError> {
     let content = size.saturating_sub(10);
-    let mut bytes = Vec::from_slice(rt.alloc(), b"\x92\x00\x81\xa1k\xc6")?;
-    bytes.extend_from_slice(&content.to_be_bytes())?;
-    bytes.resize(bytes.len() + content as usize, 0)?;
-    match Entries::read(rt.alloc(), &bytes, 1)? {
-        Some(entries) => Ok(entries),
-        None => Err(io::ErrorKind::InvalidData.into()),
-    }
+    let [a, b, c, d] = content.to_be_bytes();
+    let mut bytes = Vec::from_slice(alloc, &[0x92, 0, 0x81, 0xa1, b'k', 0xc6, a, b, c, d])?;
+    bytes.resize(10 + content as usize, 0)?;
+    Entries::read(alloc, &bytes, 1)
 }
 
-fn fill<D: Dir>(
-    rt: &HostRuntime,
-    buffer: &mut Buffer<D, Global>,
-    counts: Counts,
-) -> io::Result<u8> {
-    let entries = sized_entry(rt, counts.size)?;
-    for _ in 0..counts.count {
-        if add(buffer, &entries).is_none() {
-            return Ok(1);
+// Appends the entry of this number, and queues its chunk where it is the last of some.
+fn append<R: Print, A: Allocator + Copy, D: Dir>(
+    rt: &R,
+    alloc: A,
+    buffer: &mut Buffer<D, A>,
+    number: u64,
+) -> bool {
+    let Ok(Some(entries)) = numbered(alloc, number) else {
+        return false;
+    };
+    let Ok(serial) = put(buffer, TAG, &entries, true) else {
+        return false;
+    };
+    println!(rt; "{number}").is_ok()
+        && (number % QUEUED_AT != QUEUED_AT - 1 || buffer.enqueue(serial).is_ok())
+}
+
+// Appends entries, from the number behind the last one on: as none is ever purged, there are as
+// many as have numbers before it.
+fn append_all<R: Print, A: Allocator + Copy, D: Dir>(
+    rt: &R,
+    alloc: A,
+    buffer: &mut Buffer<D, A>,
+) -> bool {
+    let Ok(first) = u64::try_from(buffer.chunks().total() / u128::from(ENTRY_LEN)) else {
+        return false;
+    };
+    for number in first..u64::MAX {
+        if !append(rt, alloc, buffer, number) {
+            return false;
         }
     }
-    Ok(0)
+    true
 }
 
-// Queues, claims and purges the chunk of this serial.
-fn deliver<D: Dir>(buffer: &mut Buffer<D, Global>, serial: u64) -> bool {
-    if !queue(buffer, serial) {
+// Prints the numbers of these entries.
+fn print_numbers<R: Print>(rt: &R, bytes: &[u8]) -> bool {
+    for entry in bytes.chunks_exact(ENTRY_LEN as usize) {
+        if let [0x92, 0xcf, a, b, c, d, e, f, g, h, 0x80] = entry {
+            let number = u64::from_be_bytes([*a, *b, *c, *d, *e, *f, *g, *h]);
+            if println!(rt; "{number}").is_err() {
+                return false;
+            }
+        }
+    }
+    true
+}
+
+// Prints those of the chunk of this serial, if it is live.
+fn print_chunk<R: Print, A: Allocator + Copy, D: Dir>(
+    rt: &R,
+    buffer: &mut Buffer<D, A>,
+    serial: u64,
+) -> bool {
+    match buffer.body(serial) {
+        Ok(entries) => print_numbers(rt, entries.as_bytes()),
+        Err(fault) => fault == BufferFault::Gone,
+    }
+}
+
+fn list<R: Print, A: Allocator + Copy, D: Dir>(rt: &R, buffer: &mut Buffer<D, A>) -> bool {
+    for serial in 0..buffer.chunks().next_serial() {
+        if !print_chunk(rt, buffer, serial) {
+            return false;
+        }
+    }
+    true
+}
+
+// Appends these entries, and queues, claims and purges their chunk.
+fn deliver<A: Allocator + Copy, D: Dir>(buffer: &mut Buffer<D, A>, entries: &Entries<A>) -> bool {
+    let Ok(serial) = put(buffer, TAG, entries, true) else {
+        return false;
+    };
+    if buffer.enqueue(serial).is_err() {
         return false;
     }
-    match claim(buffer) {
-        Some(claimed) => purge(buffer, claimed),
+    match buffer.claim() {
+        Some(claimed) => buffer.purge(claimed).is_ok(),
         None => false,
     }
 }
 
-fn churn<D: Dir>(
-    rt: &HostRuntime,
-    buffer: &mut Buffer<D, Global>,
+// Appends entries as said, of which each last one of some is synced with those before it, or each
+// is delivered at once.
+fn put_all<A: Allocator + Copy, D: Dir>(
+    alloc: A,
+    buffer: &mut Buffer<D, A>,
     counts: Counts,
-) -> io::Result<u8> {
-    let entries = sized_entry(rt, counts.size)?;
-    for _ in 0..counts.count {
-        let Some(serial) = add(buffer, &entries) else {
-            return Ok(1);
-        };
-        if !deliver(buffer, serial) {
-            return Ok(1);
-        }
-    }
-    Ok(0)
-}
-
-fn stage_all<D: Dir>(
-    rt: &HostRuntime,
-    buffer: &mut Buffer<D, Global>,
-    counts: Counts,
-) -> io::Result<u8> {
-    let entries = sized_entry(rt, counts.size)?;
+    is_delivered: bool,
+) -> bool {
+    let Ok(Some(entries)) = sized(alloc, counts.size) else {
+        return false;
+    };
     let each = counts.each.max(1);
     for number in 0..counts.count {
-        if stage(buffer, &entries).is_none() {
-            return Ok(1);
-        }
-        if number % each == each - 1 && !sync(buffer) {
-            return Ok(1);
+        let is_put = if is_delivered {
+            deliver(buffer, &entries)
+        } else {
+            put(buffer, TAG, &entries, number % each == each - 1).is_ok()
+        };
+        if !is_put {
+            return false;
         }
     }
-    Ok(0)
-}
-
-// Prints how many bytes of entries the live chunks have.
-fn total<D: Dir>(rt: &HostRuntime, buffer: &Buffer<D, Global>) -> io::Result<u8> {
-    let total = buffer.chunks().total();
-    println!(rt; "{total}")?;
-    Ok(0)
-}
-
-// Whether the journal is renewed.
-fn renewed<D: Dir>(buffer: &mut Buffer<D, Global>) -> bool {
-    buffer.renew().is_ok()
-}
-
-fn renew<D: Dir>(rt: &HostRuntime, buffer: &mut Buffer<D, Global>) -> io::Result<u8> {
-    if !renewed(buffer) {
-        return Ok(1);
-    }
-    let serials = serials(rt, buffer)?;
-    let Some(first) = serials.first() else {
-        return Ok(1);
-    };
-    let Ok(entries) = body(buffer, *first) else {
-        return Ok(1);
-    };
-    println!(rt; "{}", entries.count())?;
-    Ok(0)
+    true
 }
 
 // Stages so many entries, each in a chunk of its own, and queues the chunks.
-fn queue_all<D: Dir>(
-    rt: &HostRuntime,
-    buffer: &mut Buffer<D, Global>,
-    count: u32,
-) -> io::Result<u8> {
-    let entries = entry_of(rt, 0)?;
-    for _ in 0..count {
-        if stage(buffer, &entries).is_none() {
-            return Ok(1);
-        }
+fn queue_all<A: Allocator + Copy, D: Dir>(alloc: A, buffer: &mut Buffer<D, A>, count: u32) -> bool {
+    let counts = Counts {
+        count,
+        size: ENTRY_LEN,
+        each: u32::MAX,
+    };
+    if !put_all(alloc, buffer, counts, false) {
+        return false;
     }
     for serial in 0..u64::from(count) {
-        if !queue(buffer, serial) {
-            return Ok(1);
+        if buffer.enqueue(serial).is_err() {
+            return false;
         }
     }
-    Ok(0)
+    true
+}
+
+// Prints how many bytes of entries the live chunks have.
+fn total<R: Print, A: Allocator + Copy, D: Dir>(rt: &R, buffer: &Buffer<D, A>) -> bool {
+    println!(rt; "{}", buffer.chunks().total()).is_ok()
+}
+
+// The serial of the first live chunk, or the next one.
+fn first<A: Allocator + Copy, D: Dir>(buffer: &Buffer<D, A>) -> u64 {
+    match buffer.chunks().iter().next() {
+        Some(facts) => facts.serial,
+        None => buffer.chunks().next_serial(),
+    }
+}
+
+// Prints how many entries the first chunk has.
+fn print_first<R: Print, A: Allocator + Copy, D: Dir>(rt: &R, buffer: &mut Buffer<D, A>) -> bool {
+    match buffer.body(first(buffer)) {
+        Ok(entries) => println!(rt; "{}", entries.count()).is_ok(),
+        Err(_) => false,
+    }
 }
 
 // The word at this place as a count, or 0 where there is none.
@@ -332,92 +257,68 @@ fn asked(name: &str, words: &[String]) -> Option<(Word, Counts)> {
     None
 }
 
-// Does with the buffer what the word says.
-fn act<D: Dir>(
-    rt: &HostRuntime,
-    buffer: &mut Buffer<D, Global>,
+// Does with the buffer what the word says: whether all went well.
+fn act<R: Print, A: Allocator + Copy, D: Dir>(
+    rt: &R,
+    alloc: A,
+    buffer: &mut Buffer<D, A>,
     word: Word,
     counts: Counts,
-) -> io::Result<u8> {
+) -> bool {
     match word {
-        Word::Append => append_all(rt, buffer),
+        Word::Append => append_all(rt, alloc, buffer),
         Word::List => list(rt, buffer),
-        Word::Fill => fill(rt, buffer, counts),
-        Word::Churn => churn(rt, buffer, counts),
+        Word::Fill => put_all(alloc, buffer, counts, false),
+        Word::Churn => put_all(alloc, buffer, counts, true),
         Word::Open => total(rt, buffer),
-        Word::Renew => renew(rt, buffer),
-        Word::Stage => stage_all(rt, buffer, counts),
+        Word::Renew => buffer.renew().is_ok() && print_first(rt, buffer),
+        Word::Queue => queue_all(alloc, buffer, counts.count),
+    }
+}
+
+// The same with the buffer in this folder.
+fn act_in<R: Print, A: Allocator + Copy, D: Dir + Drop>(
+    rt: &R,
+    alloc: A,
+    dir: D,
+    settings: Settings,
+    word: Word,
+    counts: Counts,
+) -> bool {
+    match Buffer::open(alloc, dir, TAG, settings) {
+        Ok(mut buffer) => {
+            let is_well = act(rt, alloc, &mut buffer, word, counts);
+            drop(buffer.into_dir());
+            is_well
+        }
+        Err((fault, _)) => {
+            let _ = println!(rt; "fault {fault}");
+            false
+        }
     }
 }
 
 // What becomes of a word on the buffer in the folder of this path.
-fn in_folder(rt: &HostRuntime, name: &str, folder: &str, words: &[String]) -> io::Result<u8> {
-    let Some((word, counts)) = asked(name, words) else {
-        return Ok(2);
-    };
-    let settings = Settings {
-        limits: Limits {
-            chunk: CHUNK_LIMIT,
-            total: 2_147_483_648,
-        },
-        renewed_past: RENEWED_PAST_IN_FILES,
-    };
-    act_in(
-        rt,
-        RealDir::new(rt, rt.alloc(), folder)?,
-        settings,
-        word,
-        counts,
-    )
-}
-
-// Does with the buffer in this folder what the word says.
-fn act_in<D: Dir + Drop>(
-    rt: &HostRuntime,
-    dir: D,
-    settings: Settings,
-    word: Word,
-    counts: Counts,
-) -> io::Result<u8> {
-    let mut buffer = open(rt, dir, settings)?;
-    let status = act(rt, &mut buffer, word, counts);
-    drop(buffer.into_dir());
-    status
+fn in_folder(rt: &HostRuntime, name: &str, folder: &str, words: &[String]) -> Option<bool> {
+    let (word, counts) = asked(name, words)?;
+    match RealDir::new(rt, rt.alloc(), folder) {
+        Ok(dir) => Some(act_in(rt, rt.alloc(), dir, IN_FILES, word, counts)),
+        Err(_) => Some(false),
+    }
 }
 
 // The same of the word `queue`, on a buffer in memory.
-fn in_memory(rt: &HostRuntime, words: &[String]) -> io::Result<u8> {
-    let Some(counts) = counts_of(words, 1) else {
-        return Ok(2);
-    };
-    let settings = Settings {
-        limits: Limits {
-            chunk: ENTRY_LEN as u64,
-            total: u64::MAX,
-        },
-        renewed_past: u64::MAX,
-    };
-    queue_in(rt, MemoryDir::new(rt.alloc()), settings, counts.count)
+fn in_memory(rt: &HostRuntime, words: &[String]) -> Option<bool> {
+    let counts = counts_of(words, 1)?;
+    let dir = MemoryDir::new(rt.alloc());
+    Some(act_in(rt, rt.alloc(), dir, IN_MEMORY, Word::Queue, counts))
 }
 
-// Queues so many chunks of the buffer in this folder.
-fn queue_in<D: Dir + Drop>(
-    rt: &HostRuntime,
-    dir: D,
-    settings: Settings,
-    count: u32,
-) -> io::Result<u8> {
-    let mut buffer = open(rt, dir, settings)?;
-    let status = queue_all(rt, &mut buffer, count);
-    drop(buffer.into_dir());
-    status
-}
-
-/// What becomes of these words, and the exit status of it.
-pub fn answer(rt: &HostRuntime, words: &[String]) -> io::Result<u8> {
+/// What becomes of these words: whether all went well, if they ask for something.
+pub fn answer(rt: &HostRuntime, words: &[String]) -> Option<bool> {
     match words {
         [name, rest @ ..] if name.as_str() == "queue" => in_memory(rt, rest),
         [name, folder, rest @ ..] => in_folder(rt, name, folder, rest),
-        _ => Ok(2),
+        _ => None,
     }
 }

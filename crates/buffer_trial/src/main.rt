@@ -5,16 +5,14 @@
 //!         appends one numbered entry after another, and prints each number after its `Ok`
 //!     buffer_trial list FOLDER
 //!         prints the numbers of all entries in live chunks
-//!     buffer_trial fill FOLDER COUNT SIZE
-//!         appends so many entries of so many bytes
+//!     buffer_trial fill FOLDER COUNT SIZE EACH
+//!         appends so many entries of so many bytes, with one sync for each so many
 //!     buffer_trial churn FOLDER COUNT SIZE
 //!         appends so many, and queues, claims and purges each at once
 //!     buffer_trial open FOLDER
 //!         prints how many bytes of entries the live chunks have
 //!     buffer_trial renew FOLDER
 //!         renews the journal, and prints how many entries the first chunk has, read from it
-//!     buffer_trial stage FOLDER COUNT SIZE EACH
-//!         stages so many entries of so many bytes, with one sync for each so many
 //!     buffer_trial queue COUNT
 //!         stages so many chunks of one tag in memory, and queues them
 //!     buffer_trial stop buffers
@@ -27,21 +25,21 @@
 //!         purges so many thousand queued chunks by so many workers, and prints how many a second
 //!     buffer_trial pool claim QUEUED THOUSANDS
 //!         claims and gives back so many thousand times while so many thousand chunks are queued
-//!     buffer_trial pool settle CHUNKS THOUSANDS
-//!         appends so many thousand messages for each of so many chunks, settles each, and lets
-//!         the chunks go
+//!
+//! It ends with 1 where something is wrong, and with 2 where it isn't asked so.
 #![tactic(auto)]
 
 mod filling;
 mod pools;
+mod puts;
 mod stops;
 
 use disk_files::MemoryDir;
 use std::process::ExitCode;
 use std::{env, io};
 
-// What becomes of words that ask for no threads.
-fn answer(rt: &HostRuntime, words: &[String]) -> io::Result<u8> {
+// What becomes of words that ask for no threads: whether all is well, if they ask for something.
+fn answer(rt: &HostRuntime, words: &[String]) -> Option<bool> {
     match words {
         [word, rest @ ..] if word.as_str() == "stop" => stops::answer(rt, rest),
         _ => filling::answer(rt, words),
@@ -57,12 +55,16 @@ fn main(rt: HostRuntime) -> ExitCode {
     let Ok(words) = words(&rt) else {
         return ExitCode::from(2);
     };
-    let status = match words.as_slice() {
+    let is_well = match words.as_slice() {
         [_, word, rest @ ..] if word.as_str() == "pool" => {
             pools::answer(&rt, rt.alloc(), MemoryDir::new(rt.alloc()), rest)
         }
         [_, rest @ ..] => answer(&rt, rest),
-        [] => Ok(2),
+        [] => None,
     };
-    ExitCode::from(status.unwrap_or(2))
+    ExitCode::from(match is_well {
+        Some(true) => 0,
+        Some(false) => 1,
+        None => 2,
+    })
 }

@@ -1,23 +1,20 @@
 //! Two generations of a journal, of which the newer is cut, and each stop of an opening over them.
 
+use crate::stops::looking::Wrong;
 use crate::stops::playing::open;
-use crate::stops::tally::{Failing, STOPS, Stop, Stopping, Tally, on_device, stopped};
+use crate::stops::runs::{Found, Run, Stopping};
 use buffer_state::Stage;
 use buffer_store::{Buffer, BufferFault};
 use disk_files::{Dir, DirError, Writing};
 use std::alloc::Allocator;
-use std::io;
 
 // An entry of chunk 0 of tag `a`, and a Seal of 1.
 static OLDER: &[u8] =
     b"\0\0\0\x13\x02\0\0\0\0\0\0\0\0\0\x01a\0\0\0\x01\x92\x01\x80\0\0\0\x09\x01\0\0\0\0\0\0\0\x01";
 
-// An entry of chunk 4 of tag `b`, and a Seal of 5.
-static NEWER: &[u8] =
+/// The newer generation: an entry of chunk 4 of tag `b`, and a Seal of 5.
+pub static NEWER: &[u8] =
     b"\0\0\0\x13\x02\0\0\0\0\0\0\0\x04\0\x01b\0\0\0\x01\x92\x02\x80\0\0\0\x09\x01\0\0\0\0\0\0\0\x05";
-
-// An opening asks for fewer calls of the folder than this.
-const CALLS: u64 = 40;
 
 fn put<D: Dir>(dir: &mut D, name: &[u8], bytes: &[u8]) -> Result<(), DirError> {
     let file = dir.create(name, bytes.len())?;
@@ -25,8 +22,10 @@ fn put<D: Dir>(dir: &mut D, name: &[u8], bytes: &[u8]) -> Result<(), DirError> {
     dir.sync(file)
 }
 
-fn put_both<D: Dir + Drop>(dir: D, newer: &[u8]) -> Result<D, DirError> {
-    let mut dir = dir;
+// A folder with both, of which the newer has this length.
+fn both<A: Allocator + Copy, D: Stopping<A>>(alloc: A, length: usize) -> Result<D, DirError> {
+    let mut dir = D::made(alloc);
+    let (newer, _) = NEWER.split_at(length.min(NEWER.len()));
     put(&mut dir, b"buf.0000000001.journal", OLDER)?;
     put(&mut dir, b"buf.0000000002.journal", newer)?;
     Ok(dir)
@@ -91,55 +90,39 @@ fn opened<A: Allocator + Copy, D: Dir>(alloc: A, dir: D) -> (Option<BufferFault>
     }
 }
 
-// Whether each stop of an opening that fails so leaves a folder that opens to the same; and whether
-// it didn't fail.
-fn stops<A: Allocator + Copy, D: Stopping<A>>(
-    alloc: A,
-    tally: &mut Tally,
-    cut: usize,
-    calls: Failing,
-) -> Result<bool, DirError> {
-    let (newer, _) = NEWER.split_at(cut.min(NEWER.len()));
-    let mut is_whole = false;
-    for stop in &STOPS {
-        let dir = put_both(D::made(alloc), newer)?;
-        let (fault, dir) = opened(alloc, on_device(dir, calls));
-        let left = stopped::<A, D>(dir.into_inner(), *stop);
-        let is_well = fault.is_none() || fault == Some(BufferFault::Fault);
-        tally.count(!is_well || !opens(alloc, left, cut == NEWER.len(), None));
-        is_whole = fault.is_none();
+/// Whether the newer generation of this length counts where its Seal is whole, else the older one;
+/// generation 3 then stands alone.
+pub fn is_renewed<A: Allocator + Copy, D: Stopping<A>>(alloc: A, length: usize) -> bool {
+    let third = b"buf.0000000003.journal".as_slice();
+    match both::<A, D>(alloc, length) {
+        Ok(dir) => opens(alloc, dir, length == NEWER.len(), Some(third)),
+        Err(_) => false,
     }
-    Ok(is_whole)
 }
 
-// The same of each call that fails, with all behind it.
-fn openings<A: Allocator + Copy, D: Stopping<A>>(
-    alloc: A,
-    tally: &mut Tally,
-    cut: usize,
-) -> Result<(), DirError> {
-    for passes in 0..CALLS {
-        if stops::<A, D>(alloc, tally, cut, Failing::Past(passes))? {
-            return Ok(());
-        }
+// What an opening of this folder on the run's device comes to, and what is found behind its stop.
+fn found_in<A: Allocator + Copy, D: Stopping<A>>(alloc: A, dir: D, run: &Run) -> Found {
+    let (fault, dir) = opened(alloc, run.on_device(dir));
+    let left = run.stopped::<A, D>(dir);
+    let is_right = opens(alloc, left, run.before == NEWER.len(), None);
+    let is_well = fault.is_none() || fault == Some(BufferFault::Fault);
+    Found {
+        wrong: if is_right && is_well {
+            None
+        } else {
+            Some(Wrong::Generation)
+        },
+        is_whole: fault.is_none(),
     }
-    Ok(())
 }
 
-fn all_in<A: Allocator + Copy, D: Stopping<A>>(alloc: A) -> Result<Tally, DirError> {
-    let mut tally = Tally::new();
-    for cut in 0..=NEWER.len() {
-        let (newer, _) = NEWER.split_at(cut.min(NEWER.len()));
-        let dir = put_both(D::made(alloc), newer)?;
-        let third = b"buf.0000000003.journal".as_slice();
-        tally.count(!opens(alloc, dir, cut == NEWER.len(), Some(third)));
-        openings::<A, D>(alloc, &mut tally, cut)?;
+/// What a run comes to, before which the newer generation has so many bytes: the same one counts.
+pub fn found<A: Allocator + Copy, D: Stopping<A>>(alloc: A, run: &Run) -> Found {
+    match both::<A, D>(alloc, run.before) {
+        Ok(dir) => found_in::<A, D>(alloc, dir, run),
+        Err(_) => Found {
+            wrong: Some(Wrong::Answer),
+            is_whole: false,
+        },
     }
-    Ok(tally)
-}
-
-/// The newer generation counts where its Seal is whole, else the older one; generation 3 then
-/// stands alone. So it is at each length of the newer one, and behind each stop of the opening.
-pub fn all<A: Allocator + Copy, D: Stopping<A>>(alloc: A) -> io::Result<Tally> {
-    all_in::<A, D>(alloc).map_err(|_| io::ErrorKind::Other.into())
 }

@@ -1,6 +1,7 @@
 //! What is looked for in a folder that a stop left.
 
-use crate::stops::playing::{append, open};
+use crate::puts::put;
+use crate::stops::playing::{entry, open};
 use crate::stops::script::{Known, SERIALS, Table};
 use buffer_state::Stage;
 use buffer_store::Buffer;
@@ -8,7 +9,7 @@ use disk_files::Dir;
 use std::alloc::Allocator;
 
 /// What is wrong.
-#[derive(Clone, Copy, Debug, PartialEq, Eq)]
+#[derive(Clone, Copy, Debug)]
 pub enum Wrong {
     /// A call was answered otherwise than it ought to be.
     Answer,
@@ -24,6 +25,10 @@ pub enum Wrong {
     Content,
     /// The next append isn't taken, or has another serial than the next.
     NextAppend,
+    /// Of two generations another one counts than ought to.
+    Generation,
+    /// A sink lacks an event that was answered for, or has another one.
+    Events,
 }
 
 fn tag_of<A: Allocator + Copy, D: Dir>(buffer: &Buffer<D, A>, serial: u64) -> Option<u8> {
@@ -106,7 +111,10 @@ fn wrong_chunks<A: Allocator + Copy, D: Dir>(
 // Whether the next append takes the next serial.
 fn goes_on<A: Allocator + Copy, D: Dir>(alloc: A, buffer: &mut Buffer<D, A>) -> bool {
     let next = buffer.chunks().next_serial();
-    append(alloc, buffer, b'z', 99) == Ok(next)
+    match entry(alloc, 99) {
+        Ok(some) => put(buffer, b"z", &some, true) == Ok(next),
+        Err(_) => false,
+    }
 }
 
 /// What is wrong in this folder, if anything is.

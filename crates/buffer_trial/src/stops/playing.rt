@@ -1,80 +1,51 @@
 //! A buffer is taken through acts, and what is known of its chunks is noted.
 
-use crate::stops::script::{Act, Table};
+use crate::puts::put;
+use crate::stops::script::{Act, SERIALS, Table};
 use buffer_state::{Limits, Stage};
-use buffer_store::{Appended, Buffer, BufferFault, RENEWED_PAST_IN_MEMORY, Settings};
+use buffer_store::{Buffer, BufferFault, RENEWED_PAST_IN_MEMORY, Settings};
 use disk_files::Dir;
 use event_modes::Entries;
-use std::alloc::{AllocError, Allocator};
+use std::alloc::Allocator;
+
+const SETTINGS: Settings = Settings {
+    limits: Limits {
+        chunk: u64::MAX,
+        total: u64::MAX,
+    },
+    renewed_past: RENEWED_PAST_IN_MEMORY,
+};
 
 /// Opens the buffer in this folder. A folder that doesn't open is handed back with its fault.
 pub fn open<A: Allocator + Copy, D: Dir>(
     alloc: A,
     dir: D,
 ) -> Result<Buffer<D, A>, (BufferFault, D)> {
-    let limits = Limits {
-        chunk: u64::MAX,
-        total: u64::MAX,
-    };
-    let settings = Settings {
-        limits,
-        renewed_past: RENEWED_PAST_IN_MEMORY,
-    };
-    Buffer::open(alloc, dir, b"buf", settings)
+    Buffer::open(alloc, dir, b"buf", SETTINGS)
 }
 
-// The entry of this number.
-fn entry<A: Allocator + Copy>(alloc: A, number: u8) -> Result<Entries<A>, AllocError> {
-    match Entries::read(alloc, &[0x92, number, 0x80], 1)? {
-        Some(some) => Ok(some),
-        None => Err(AllocError),
+/// The entry of this number.
+pub fn entry<A: Allocator + Copy>(alloc: A, number: u8) -> Result<Entries<A>, BufferFault> {
+    match Entries::read(alloc, &[0x92, number, 0x80], 1) {
+        Ok(Some(some)) => Ok(some),
+        _ => Err(BufferFault::Memory),
     }
 }
 
-fn serial_of(put: Result<Appended, BufferFault>) -> Result<u64, BufferFault> {
-    match put {
-        Ok(put) => Ok(put.serial),
+// The answer without the serial.
+fn done(answer: Result<u64, BufferFault>) -> Result<(), BufferFault> {
+    match answer {
+        Ok(_) => Ok(()),
         Err(fault) => Err(fault),
     }
 }
 
-/// Appends the entry of this number under this tag, and gives its serial.
-pub fn append<A: Allocator + Copy, D: Dir>(
-    alloc: A,
-    buffer: &mut Buffer<D, A>,
-    tag: u8,
-    number: u8,
-) -> Result<u64, BufferFault> {
-    match entry(alloc, number) {
-        Ok(some) if some.count() > 0 => serial_of(buffer.append(&[tag], &some)),
-        _ => Err(BufferFault::Memory),
+// A call was answered so that syncs all that was begun.
+fn synced(table: &mut Table, answer: Result<(), BufferFault>) -> Result<(), BufferFault> {
+    if answer.is_ok() {
+        table.sync();
     }
-}
-
-// The same without a sync.
-fn stage<A: Allocator + Copy, D: Dir>(
-    alloc: A,
-    buffer: &mut Buffer<D, A>,
-    tag: u8,
-    number: u8,
-) -> Result<u64, BufferFault> {
-    match entry(alloc, number) {
-        Ok(some) if some.count() > 0 => serial_of(buffer.stage(&[tag], &some)),
-        _ => Err(BufferFault::Memory),
-    }
-}
-
-// The serial at which such an entry is to be appended.
-fn place<A: Allocator + Copy, D: Dir>(
-    alloc: A,
-    buffer: &Buffer<D, A>,
-    tag: u8,
-    number: u8,
-) -> Result<u64, BufferFault> {
-    match entry(alloc, number) {
-        Ok(some) => buffer.plan(&[tag], &some),
-        Err(AllocError) => Err(BufferFault::Memory),
-    }
+    answer
 }
 
 // An append that the device fails may be there.
@@ -82,42 +53,27 @@ fn grow<A: Allocator + Copy, D: Dir>(
     alloc: A,
     buffer: &mut Buffer<D, A>,
     table: &mut Table,
-    act: Act,
+    tag: u8,
+    number: u8,
+    is_synced: bool,
 ) -> Result<(), BufferFault> {
-    let (tag, number, is_synced) = match act {
-        Act::Append(tag, number) => (tag, number, true),
-        Act::Stage(tag, number) => (tag, number, false),
-        _ => return Ok(()),
-    };
-    let serial = place(alloc, buffer, tag, number)?;
+    let some = entry(alloc, number)?;
+    let serial = buffer.plan(&[tag], &some)?;
     table.begin(serial, tag, number);
-    if is_synced {
-        append(alloc, buffer, tag, number)?;
-        table.sync();
-    } else {
-        stage(alloc, buffer, tag, number)?;
-    }
-    Ok(())
+    let put = done(put(buffer, &[tag], &some, is_synced));
+    if is_synced { synced(table, put) } else { put }
 }
 
-fn sync<A: Allocator + Copy, D: Dir>(
-    buffer: &mut Buffer<D, A>,
-    table: &mut Table,
-) -> Result<(), BufferFault> {
-    buffer.sync()?;
-    table.sync();
-    Ok(())
-}
-
-fn enqueue<A: Allocator + Copy, D: Dir>(
-    buffer: &mut Buffer<D, A>,
+// The chunk of this serial was queued, with a sync.
+fn queued(
     table: &mut Table,
     serial: u64,
+    answer: Result<(), BufferFault>,
 ) -> Result<(), BufferFault> {
-    buffer.enqueue(serial)?;
-    table.sync();
-    table.queue(serial);
-    Ok(())
+    if answer.is_ok() {
+        table.queue(serial);
+    }
+    synced(table, answer)
 }
 
 fn claim<A: Allocator + Copy, D: Dir>(buffer: &mut Buffer<D, A>, table: &mut Table) {
@@ -146,9 +102,9 @@ fn purge<A: Allocator + Copy, D: Dir>(
 
 // The least serial of a queued chunk.
 fn oldest<A: Allocator + Copy, D: Dir>(buffer: &Buffer<D, A>) -> Option<u64> {
-    for facts in buffer.chunks().iter() {
-        if facts.stage == Stage::Queued {
-            return Some(facts.serial);
+    for serial in 0..SERIALS {
+        if buffer.chunks().stage(serial) == Some(Stage::Queued) {
+            return Some(serial);
         }
     }
     None
@@ -163,17 +119,7 @@ fn drop_oldest<A: Allocator + Copy, D: Dir>(
     {
         table.let_go(serial);
     }
-    buffer.drop_oldest()?;
-    Ok(())
-}
-
-fn renew<A: Allocator + Copy, D: Dir>(
-    buffer: &mut Buffer<D, A>,
-    table: &mut Table,
-) -> Result<(), BufferFault> {
-    buffer.renew()?;
-    table.sync();
-    Ok(())
+    done(buffer.drop_oldest())
 }
 
 fn take<A: Allocator + Copy, D: Dir>(
@@ -183,16 +129,22 @@ fn take<A: Allocator + Copy, D: Dir>(
     act: Act,
 ) -> Result<(), BufferFault> {
     match act {
-        Act::Stage(..) | Act::Append(..) => grow(alloc, buffer, table, act)?,
-        Act::Sync => sync(buffer, table)?,
-        Act::Enqueue(serial) => enqueue(buffer, table, serial)?,
-        Act::Claim => claim(buffer, table),
-        Act::GiveBack(serial) => give_back(buffer, serial),
-        Act::Purge(serial) => purge(buffer, table, serial)?,
-        Act::DropOldest => drop_oldest(buffer, table)?,
-        Act::Renew => renew(buffer, table)?,
+        Act::Stage(tag, number) => grow(alloc, buffer, table, tag, number, false),
+        Act::Append(tag, number) => grow(alloc, buffer, table, tag, number, true),
+        Act::Sync => synced(table, buffer.sync()),
+        Act::Enqueue(serial) => queued(table, serial, buffer.enqueue(serial)),
+        Act::Claim => {
+            claim(buffer, table);
+            Ok(())
+        }
+        Act::GiveBack(serial) => {
+            give_back(buffer, serial);
+            Ok(())
+        }
+        Act::Purge(serial) => purge(buffer, table, serial),
+        Act::DropOldest => drop_oldest(buffer, table),
+        Act::Renew => synced(table, buffer.renew()),
     }
-    Ok(())
 }
 
 // Whether a call is answered as it ought to be by a buffer that had failed, or by one that hadn't.

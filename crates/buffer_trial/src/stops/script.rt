@@ -1,7 +1,7 @@
 //! What is done to a buffer, and what is known of its chunks then.
 
 /// A call of a buffer. A tag has one byte, and an entry is told from others by its number.
-#[derive(Clone, Copy, Debug, PartialEq, Eq)]
+#[derive(Clone, Copy)]
 pub enum Act {
     Stage(u8, u8),
     Append(u8, u8),

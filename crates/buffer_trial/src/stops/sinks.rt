@@ -1,12 +1,11 @@
 //! A sink over a device that fails, and each stop behind it.
 
-use crate::stops::tally::{Failing, STOPS, Stop, Stopping, Tally, lengths, on_device, stopped};
-use disk_files::{Dir, Keep};
-use event_modes::Entries;
-use sink_series::{Series, SeriesFault, Stored};
+use crate::stops::looking::Wrong;
+use crate::stops::runs::{Found, Run, Stopping};
+use disk_files::Dir;
+use event_modes::{Entries, LONGEST_TAG};
+use sink_series::{Series, SeriesFault, SinkEvent, Stored};
 use std::alloc::Allocator;
-use std::io;
-use std::io::Print;
 
 // Entries that are written in one call: their tag, their bytes, and how many they are.
 struct Write {
@@ -43,8 +42,8 @@ static WRITES: [Write; 5] = [
     },
 ];
 
-// How many of these are written in an earlier file, on a device that fails nothing.
-const EARLIER: usize = 2;
+/// How many of these are written in an earlier file, on a device that fails nothing.
+pub const EARLIER: usize = 2;
 
 // All events, in order: the tag and the entry's number of each.
 static EVENTS: [(&[u8], u8); 7] = [
@@ -57,10 +56,8 @@ static EVENTS: [(&[u8], u8); 7] = [
     (b"b", 7),
 ];
 
-// The writes ask for fewer calls of the folder than this.
-const CALLS: u64 = 30;
-
-static NAMES: [&[u8]; 2] = [b"out.0000000001.sink", b"out.0000000002.sink"];
+/// The files of the sink.
+pub static NAMES: [&[u8]; 2] = [b"out.0000000001.sink", b"out.0000000002.sink"];
 
 fn opened<A: Allocator + Copy, D: Dir>(alloc: A, dir: D) -> Result<Series<D, A>, (SeriesFault, D)> {
     Series::open(alloc, dir, b"out")
@@ -74,22 +71,30 @@ fn is_receipt<A: Allocator + Copy>(stored: &Stored<A>, write: &Write) -> bool {
 }
 
 // Writes, and says why not, or that the receipt is wrong.
+fn put_entries<A: Allocator + Copy, D: Dir>(
+    series: &mut Series<D, A>,
+    write: &Write,
+    entries: &Entries<A>,
+) -> Result<(), SeriesFault> {
+    if write.tag.len() > LONGEST_TAG {
+        return Err(SeriesFault::Memory);
+    }
+    match series.write_all_entries(write.tag, entries) {
+        Ok(stored) if is_receipt(&stored, write) => Ok(()),
+        Ok(_) => Err(SeriesFault::Memory),
+        Err(fault) => Err(fault),
+    }
+}
+
+// The same with the entries that are read first.
 fn put<A: Allocator + Copy, D: Dir>(
     alloc: A,
     series: &mut Series<D, A>,
     write: &Write,
 ) -> Result<(), SeriesFault> {
-    if write.tag.len() > 9 {
-        return Err(SeriesFault::Memory);
-    }
-    let Ok(Some(entries)) = Entries::read(alloc, write.entries, write.count) else {
-        return Err(SeriesFault::Memory);
-    };
-    let stored = series.write_all_entries(write.tag, &entries)?;
-    if is_receipt(&stored, write) {
-        Ok(())
-    } else {
-        Err(SeriesFault::Memory)
+    match Entries::read(alloc, write.entries, write.count) {
+        Ok(Some(entries)) => put_entries(series, write, &entries),
+        _ => Err(SeriesFault::Memory),
     }
 }
 
@@ -168,92 +173,62 @@ fn sit<A: Allocator + Copy, D: Dir>(alloc: A, dir: D, went: &mut Went, writes: &
     }
 }
 
-// The folder that is left where calls of the second opening fail so, behind such a stop.
-fn left<A: Allocator + Copy, D: Stopping<A>>(alloc: A, calls: Failing, stop: Stop) -> (Went, D) {
-    let (earlier, later) = WRITES.split_at(EARLIER.min(WRITES.len()));
-    let mut went = Went::new();
-    let dir = sit(alloc, D::made(alloc), &mut went, earlier);
-    let dir = sit(alloc, on_device(dir, calls), &mut went, later);
-    (went, stopped::<A, D>(dir.into_inner(), stop))
+// The folder that a run leaves, whose calls fail in the second opening.
+fn left<A: Allocator + Copy, D: Stopping<A>>(alloc: A, run: &Run, went: &mut Went) -> D {
+    let (earlier, later) = WRITES.split_at(run.before.min(WRITES.len()));
+    let dir = sit(alloc, D::made(alloc), went, earlier);
+    let dir = sit(alloc, run.on_device(dir), went, later);
+    run.stopped::<A, D>(dir)
 }
 
-// How many events the sink holds, if these are the first of all, in order.
-fn held<A: Allocator + Copy, D: Dir>(series: &mut Series<D, A>) -> Option<usize> {
-    let Ok(events) = series.content() else {
-        return None;
-    };
+/// The folder that a run leaves.
+pub fn folder<A: Allocator + Copy, D: Stopping<A>>(alloc: A, run: &Run) -> D {
+    left(alloc, run, &mut Went::new())
+}
+
+// Whether an event has this tag, and an entry of this number.
+fn is_event<A: Allocator + Copy>(event: &SinkEvent<A>, tag: &[u8], number: u8) -> bool {
+    event.tag() == tag && event.entry() == [0x92, number, 0x80].as_slice()
+}
+
+// Whether these are the first of all events, in order.
+fn are_first<A: Allocator + Copy>(events: &[SinkEvent<A>]) -> bool {
     for (event, (tag, number)) in events.iter().zip(&EVENTS) {
-        if event.tag() != *tag || event.entry() != [0x92, *number, 0x80].as_slice() {
-            return None;
+        if !is_event(event, tag, *number) {
+            return false;
         }
     }
-    Some(events.len())
+    true
 }
 
-// Whether the folder opens, and holds what was answered for, and of the rest that was begun a
-// beginning.
-fn is_right<A: Allocator + Copy, D: Dir + Drop>(alloc: A, dir: D, went: &Went) -> bool {
+// How many events the sink holds, if they are the first of all.
+fn held<A: Allocator + Copy, D: Dir>(series: &mut Series<D, A>) -> Option<usize> {
+    match series.content() {
+        Ok(events) if are_first(&events) => Some(events.len()),
+        _ => None,
+    }
+}
+
+// How many events the sink in this folder holds, if it opens.
+fn held_in<A: Allocator + Copy, D: Dir + Drop>(alloc: A, dir: D) -> Option<usize> {
     match opened(alloc, dir) {
         Ok(mut series) => {
             let held = held(&mut series);
             drop(series.into_dir());
-            went.is_held(held)
+            held
         }
-        Err(_) => false,
+        Err(_) => None,
     }
 }
 
-fn look<R: Print, A: Allocator + Copy, D: Stopping<A>>(
-    rt: &R,
-    alloc: A,
-    tally: &mut Tally,
-    calls: Failing,
-    stop: Stop,
-) -> io::Result<bool> {
-    let (went, dir) = left::<A, D>(alloc, calls, stop);
-    let is_wrong = !is_right(alloc, dir, &went);
-    if is_wrong {
-        println!(rt; "wrong at {calls:?} behind {stop:?}")?;
+/// What a run comes to: the sink is to hold what was answered for, and of the rest that was begun a
+/// beginning.
+pub fn found<A: Allocator + Copy, D: Stopping<A>>(alloc: A, run: &Run) -> Found {
+    let mut went = Went::new();
+    let dir: D = left(alloc, run, &mut went);
+    let is_right = went.is_held(held_in(alloc, dir));
+    Found {
+        wrong: if is_right { None } else { Some(Wrong::Events) },
+        is_whole: went.is_whole,
     }
-    tally.count(is_wrong);
-    Ok(went.is_whole)
-}
-
-// Each stop behind calls of which some fail, and whether none failed.
-fn stops<R: Print, A: Allocator + Copy, D: Stopping<A>>(
-    rt: &R,
-    alloc: A,
-    tally: &mut Tally,
-    calls: Failing,
-) -> io::Result<bool> {
-    let mut is_whole = false;
-    for stop in &STOPS {
-        is_whole = look::<R, A, D>(rt, alloc, tally, calls, *stop)?;
-    }
-    let (least, most) = ends::<A, D>(alloc, calls);
-    for kept in least..most {
-        look::<R, A, D>(rt, alloc, tally, calls, Stop::Keeping(Keep::Last(kept)))?;
-    }
-    Ok(is_whole)
-}
-
-// The least and the greatest length that a stop may leave of the file that was written to last.
-fn ends<A: Allocator + Copy, D: Stopping<A>>(alloc: A, calls: Failing) -> (usize, usize) {
-    let (_, few) = left::<A, D>(alloc, calls, Stop::Keeping(Keep::Last(0)));
-    let (_, all) = left::<A, D>(alloc, calls, Stop::Keeping(Keep::Greatest));
-    lengths(few, all, &NAMES)
-}
-
-/// Each stop behind each call of an opening and of writes that fails, alone or with all behind it,
-/// until none does.
-pub fn all<R: Print, A: Allocator + Copy, D: Stopping<A>>(rt: &R, alloc: A) -> io::Result<Tally> {
-    let mut tally = Tally::new();
-    for passes in 0..CALLS {
-        let from = stops::<R, A, D>(rt, alloc, &mut tally, Failing::Past(passes))?;
-        let alone = stops::<R, A, D>(rt, alloc, &mut tally, Failing::At(passes))?;
-        if from && alone {
-            break;
-        }
-    }
-    Ok(tally)
 }

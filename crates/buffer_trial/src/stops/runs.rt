@@ -1,6 +1,7 @@
 //! Which calls of a device fail, which stops there are behind them, and how many folders were
 //! looked at.
 
+use crate::stops::looking::Wrong;
 use disk_files::{Dir, Fuse, Keep, MemoryDir};
 use std::alloc::Allocator;
 
@@ -23,44 +24,64 @@ impl<A: Allocator + Copy> Stopping<A> for MemoryDir<A> {
     }
 }
 
-/// Which calls of a device fail.
-#[derive(Clone, Copy, Debug)]
-pub enum Failing {
-    /// All behind so many.
-    Past(u64),
-    /// The one behind so many.
-    At(u64),
+/// What is done to a folder.
+#[derive(Clone, Copy)]
+pub struct Run {
+    /// How much is done first, on a device that fails nothing.
+    pub before: usize,
+    /// How many calls of the device pass then.
+    pub passes: u64,
+    /// Whether the call behind them fails alone, or with all behind it.
+    pub is_alone: bool,
+    /// What a stop keeps; without one the folder is opened as it is.
+    pub stop: Option<Keep>,
 }
 
-/// The folder on a device that fails so.
-pub fn on_device<D: Dir>(dir: D, calls: Failing) -> Fuse<D> {
-    match calls {
-        Failing::Past(passes) => Fuse::after(dir, passes),
-        Failing::At(passes) => Fuse::once(dir, passes),
+impl Run {
+    /// All calls behind so many fail, and no stop comes.
+    pub fn new(before: usize, passes: u64) -> Run {
+        Run {
+            before,
+            passes,
+            is_alone: false,
+            stop: None,
+        }
     }
-}
 
-/// What becomes of the folder behind the calls.
-#[derive(Clone, Copy, Debug)]
-pub enum Stop {
-    /// It is opened as it is.
-    Never,
-    Keeping(Keep),
+    /// The same with a stop that keeps so much.
+    pub fn stopped_by(&self, keep: Keep) -> Run {
+        Run {
+            stop: Some(keep),
+            ..*self
+        }
+    }
+
+    /// The folder on the run's device.
+    pub fn on_device<D: Dir>(&self, dir: D) -> Fuse<D> {
+        if self.is_alone {
+            Fuse::once(dir, self.passes)
+        } else {
+            Fuse::after(dir, self.passes)
+        }
+    }
+
+    /// The folder behind the run's stop.
+    pub fn stopped<A: Allocator + Copy, D: Stopping<A>>(&self, dir: Fuse<D>) -> D {
+        match self.stop {
+            None => dir.into_inner(),
+            Some(keep) => dir.into_inner().left(keep),
+        }
+    }
 }
 
 /// Three stops: none, and those that keep the least and the greatest.
-pub static STOPS: [Stop; 3] = [
-    Stop::Never,
-    Stop::Keeping(Keep::Least),
-    Stop::Keeping(Keep::Greatest),
-];
+pub static STOPS: [Option<Keep>; 3] = [None, Some(Keep::Least), Some(Keep::Greatest)];
 
-/// The folder behind the stop.
-pub fn stopped<A: Allocator + Copy, D: Stopping<A>>(dir: D, stop: Stop) -> D {
-    match stop {
-        Stop::Never => dir,
-        Stop::Keeping(keep) => dir.left(keep),
-    }
+/// What a run comes to: what is wrong with the folder that it leaves, and whether no call failed.
+#[derive(Clone, Copy)]
+pub struct Found {
+    pub wrong: Option<Wrong>,
+    pub is_whole: bool,
 }
 
 // How long the file of this name is; none is as an empty one.
