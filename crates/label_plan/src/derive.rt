@@ -3,13 +3,14 @@
 //! closes the plan is decided by the rules' own deciders, of what was written.
 
 use crate::lines::{put_label, put_reach};
-use crate::manner::{Manner, Preference};
-use crate::pattern::{any_tag, copied, fits_any, prefixed, widened};
+use crate::manner::Manner;
+use crate::pattern::{any_tag, copied, prefixed, widened};
 use crate::stock::{Stock, matches_at};
 use crate::task::{FIRST, Gate, Origin, Task, has_passed};
-use plan_lines::Plan;
+use loss_rules::fits_any;
+use plan_lines::{Plan, Reach};
 use relay_conf::{MatchRule, Output, Server};
-use relay_net::{Entrance, Net};
+use relay_net::{Client, Entrance, Net};
 use std::alloc::{AllocError, Allocator};
 use tag_pattern::{Plain, Prefix, apart, fits, fits_entered};
 
@@ -30,8 +31,11 @@ pub(crate) fn derived<A: Allocator + Copy>(
         tasks: Vec::new(alloc),
         lines: Vec::new(alloc),
     };
-    deriver.begin(plan)?;
-    deriver.finish()
+    if deriver.derive(plan)? {
+        Ok(Some(deriver.lines))
+    } else {
+        Ok(None)
+    }
 }
 
 // What was derived so far.
@@ -46,12 +50,14 @@ struct Deriver<'a, A: Allocator> {
 }
 
 impl<'a, A: Allocator + Copy> Deriver<'a, A> {
-    // Takes in what the plan has, and what its clients send.
-    fn begin(&mut self, plan: &Plan<A>) -> Result<(), AllocError> {
+    // Takes in what the plan has, and what its clients send, and then label after label through its
+    // scope. No, where there are too many labels.
+    fn derive(&mut self, plan: &Plan<A>) -> Result<bool, AllocError> {
         self.take_labels(plan)?;
         self.take_reaches(plan)?;
         self.spread_reaches(plan)?;
-        self.take_clients()
+        self.take_clients()?;
+        self.take_all()
     }
 
     // Takes in the labels that the plan has.
@@ -61,9 +67,15 @@ impl<'a, A: Allocator + Copy> Deriver<'a, A> {
                 relay: label.place,
                 scope: label.scope,
             };
-            for pattern in &label.patterns {
-                self.keep_label(at, pattern, true, FIRST)?;
-            }
+            self.keep_given(at, &label.patterns)?;
+        }
+        Ok(())
+    }
+
+    // Takes in labels of this scope that the plan has.
+    fn keep_given(&mut self, at: Entrance, patterns: &[Plain<A>]) -> Result<(), AllocError> {
+        for pattern in patterns {
+            self.keep_label(at, pattern, true, FIRST)?;
         }
         Ok(())
     }
@@ -75,9 +87,7 @@ impl<'a, A: Allocator + Copy> Deriver<'a, A> {
                 relay: reach.place,
                 scope: reach.scope,
             };
-            for pattern in &reach.patterns {
-                self.stock.keep_reach(at, reach.rule, pattern)?;
-            }
+            self.stock.keep_reaches(at, reach.rule, &reach.patterns)?;
         }
         Ok(())
     }
@@ -85,15 +95,22 @@ impl<'a, A: Allocator + Copy> Deriver<'a, A> {
     // Follows the reaches that the plan has.
     fn spread_reaches(&mut self, plan: &Plan<A>) -> Result<(), AllocError> {
         for reach in plan.reaches() {
-            let at = Entrance {
-                relay: reach.place,
-                scope: reach.scope,
-            };
-            if let Some(found) = matches_at(self.net, at).get(reach.rule) {
-                for pattern in &reach.patterns {
-                    self.spread(at, &found.outputs, pattern, FIRST)?;
-                }
-            }
+            self.spread_reach(reach)?;
+        }
+        Ok(())
+    }
+
+    // Follows this reach.
+    fn spread_reach(&mut self, reach: &Reach<A>) -> Result<(), AllocError> {
+        let at = Entrance {
+            relay: reach.place,
+            scope: reach.scope,
+        };
+        let Some(found) = matches_at(self.net, at).get(reach.rule) else {
+            return Ok(());
+        };
+        for pattern in &reach.patterns {
+            self.spread(at, &found.outputs, pattern, FIRST)?;
         }
         Ok(())
     }
@@ -103,26 +120,32 @@ impl<'a, A: Allocator + Copy> Deriver<'a, A> {
         let net = self.net;
         for (number, client) in net.clients().iter().enumerate() {
             if let Some(host) = net.client_host(number) {
-                for pattern in &client.patterns {
-                    self.enter(host, client.port, pattern, FIRST)?;
-                }
+                self.take_client(host, client)?;
             }
         }
         Ok(())
     }
 
-    // Takes label after label through its scope, and answers the lines.
-    fn finish(mut self) -> Result<Option<Vec<u8, A>>, AllocError> {
+    // Labels what the client sends to this host.
+    fn take_client(&mut self, host: &[u8], client: &Client<A>) -> Result<(), AllocError> {
+        for pattern in &client.patterns {
+            self.enter(host, client.port, pattern, FIRST)?;
+        }
+        Ok(())
+    }
+
+    // Takes label after label through its scope; no, where there are too many.
+    fn take_all(&mut self) -> Result<bool, AllocError> {
         for next in 0..MOST_LABELS {
             if next >= self.tasks.len() {
-                return Ok(Some(self.lines));
+                return Ok(true);
             }
             self.take(next)?;
         }
-        Ok(None)
+        Ok(false)
     }
 
-    // Takes the label of this task through the matches of its scope, up to the first that it fits.
+    // Adds the line of this task's label, if it is new, and takes it through its scope.
     fn take(&mut self, number: usize) -> Result<(), AllocError> {
         let Some(task) = self.tasks.get(number) else {
             return Ok(());
@@ -137,11 +160,21 @@ impl<'a, A: Allocator + Copy> Deriver<'a, A> {
         if !task.is_given {
             put_label(self.alloc, &mut self.lines, self.net, at, &pattern)?;
         }
+        self.take_through(at, &pattern, origin)
+    }
+
+    // Takes the pattern of a label of this scope through its matches, up to the first that it fits.
+    fn take_through(
+        &mut self,
+        at: Entrance,
+        pattern: &Plain<A>,
+        origin: Origin,
+    ) -> Result<(), AllocError> {
         for (rule, found) in matches_at(self.net, at).iter().enumerate() {
-            if fits_any(&pattern, &found.patterns) {
-                return self.reach(at, rule, found, &pattern, origin);
+            if fits_any(pattern, &found.patterns) {
+                return self.reach(at, rule, found, pattern, origin);
             }
-            self.meet(at, rule, found, &pattern, origin)?;
+            self.meet(at, rule, found, pattern, origin)?;
         }
         Ok(())
     }
@@ -157,38 +190,15 @@ impl<'a, A: Allocator + Copy> Deriver<'a, A> {
         origin: Origin,
     ) -> Result<(), AllocError> {
         for other in &found.patterns {
-            if !apart(other, label) && !self.stock.knows_reach(at, rule, label) {
-                let narrower = self.narrower(at, &found.outputs, label, other);
-                if !self.stock.knows_reach(at, rule, other) {
-                    self.reach(at, rule, found, narrower, origin)?;
-                }
+            if !apart(other, label)
+                && !self.stock.knows_reach(at, rule, label)
+                && !self.stock.knows_reach(at, rule, other)
+            {
+                let narrower = narrower(self.net, self.manner, at, &found.outputs, label, other);
+                self.reach(at, rule, found, narrower, origin)?;
             }
         }
         Ok(())
-    }
-
-    // The narrower of a label's and a match's pattern. Where neither fits the other, it is the one
-    // that all targets of these outputs have a match for, and else the preferred one.
-    fn narrower<'p>(
-        &self,
-        at: Entrance,
-        outputs: &[Output<A>],
-        label: &'p Plain<A>,
-        other: &'p Plain<A>,
-    ) -> &'p Plain<A> {
-        if fits(other, label) {
-            return other;
-        }
-        let prefers_label = self.manner.prefer == Preference::Label;
-        match (
-            all_match(self.net, at, outputs, label),
-            all_match(self.net, at, outputs, other),
-        ) {
-            (true, false) => label,
-            (false, true) => other,
-            _ if prefers_label => label,
-            _ => other,
-        }
     }
 
     // Adds a reach of the match, unless it fits one, and follows it.
@@ -227,12 +237,23 @@ impl<'a, A: Allocator + Copy> Deriver<'a, A> {
                     self.label(target, pattern, origin)?;
                 }
                 Output::Forward { settings, line: _ } => {
-                    for server in &settings.servers {
-                        self.enter(server.host.as_bytes(), server.port, pattern, origin)?;
-                    }
+                    self.enter_all(&settings.servers, pattern, origin)?;
                 }
                 _ => {}
             }
+        }
+        Ok(())
+    }
+
+    // Labels the scopes into which the sources lead that these servers are.
+    fn enter_all(
+        &mut self,
+        servers: &[Server<A>],
+        pattern: &Plain<A>,
+        origin: Origin,
+    ) -> Result<(), AllocError> {
+        for server in servers {
+            self.enter(server.host.as_bytes(), server.port, pattern, origin)?;
         }
         Ok(())
     }
@@ -277,19 +298,35 @@ impl<'a, A: Allocator + Copy> Deriver<'a, A> {
             return Ok(());
         }
         let comes_back = has_passed(&self.tasks, origin.from, gate);
-        let wider = if self.manner.widest || (comes_back && origin.widenings > 0) {
-            any_tag(self.alloc)?
-        } else if comes_back {
-            widened(self.alloc, pattern)?
-        } else {
-            longer
-        };
         let here = Origin {
             from: origin.from,
             gate: Some(gate),
             widenings: if comes_back { 1 } else { origin.widenings },
         };
-        self.label(at, &wider, here)
+        if self.manner.widest || (comes_back && origin.widenings > 0) {
+            self.label_any(at, here)
+        } else if comes_back {
+            self.label_wider(at, pattern, here)
+        } else {
+            self.label(at, &longer, here)
+        }
+    }
+
+    // Adds the label `**` of the scope, unless it fits one.
+    fn label_any(&mut self, at: Entrance, origin: Origin) -> Result<(), AllocError> {
+        let any = any_tag(self.alloc)?;
+        self.label(at, &any, origin)
+    }
+
+    // Adds a label of the scope, the pattern with `**` in place of a prefix, unless it fits one.
+    fn label_wider(
+        &mut self,
+        at: Entrance,
+        pattern: &Plain<A>,
+        origin: Origin,
+    ) -> Result<(), AllocError> {
+        let wider = widened(self.alloc, pattern)?;
+        self.label(at, &wider, origin)
     }
 
     // Adds a label of the scope, unless it fits one.
@@ -322,6 +359,29 @@ impl<'a, A: Allocator + Copy> Deriver<'a, A> {
         })?;
         Ok(())
     }
+}
+
+// The narrower of a label's and a match's pattern. Where neither fits the other, it is the one that
+// all targets of these outputs, those of a match of the scope, have a match for, and else the
+// preferred one.
+fn narrower<'p, A: Allocator + Copy>(
+    net: &Net<A>,
+    manner: Manner,
+    at: Entrance,
+    outputs: &[Output<A>],
+    label: &'p Plain<A>,
+    other: &'p Plain<A>,
+) -> &'p Plain<A> {
+    if fits(other, label) {
+        return other;
+    }
+    let label_goes_on = all_match(net, at, outputs, label);
+    let is_label = if label_goes_on == all_match(net, at, outputs, other) {
+        manner.prefers_label
+    } else {
+        label_goes_on
+    };
+    if is_label { label } else { other }
 }
 
 // Whether each scope to which one of these outputs, those of a match of the scope, sends the
@@ -363,9 +423,12 @@ fn has_match<A: Allocator + Copy>(
 
 // Whether the pattern fits one of the matches.
 fn fits_match<A: Allocator>(matches: &[MatchRule<A>], pattern: &Plain<A>) -> bool {
-    matches
-        .iter()
-        .any(|found| fits_any(pattern, &found.patterns))
+    for found in matches {
+        if fits_any(pattern, &found.patterns) {
+            return true;
+        }
+    }
+    false
 }
 
 // Whether the scope into which each of the servers leads has a match that the pattern fits there.
@@ -385,12 +448,26 @@ fn is_matched<A: Allocator + Copy>(
     prefix: Option<&Prefix<A>>,
     pattern: &Plain<A>,
 ) -> bool {
-    matches_at(net, at).iter().any(|found| {
-        found
-            .patterns
-            .iter()
-            .any(|other| fits_entered(prefix, pattern, other))
-    })
+    for found in matches_at(net, at) {
+        if fits_any_entered(prefix, pattern, &found.patterns) {
+            return true;
+        }
+    }
+    false
+}
+
+// Whether the pattern, with the prefix in front if there is one, fits one of the others.
+fn fits_any_entered<A: Allocator>(
+    prefix: Option<&Prefix<A>>,
+    pattern: &Plain<A>,
+    others: &[Plain<A>],
+) -> bool {
+    for other in others {
+        if fits_entered(prefix, pattern, other) {
+            return true;
+        }
+    }
+    false
 }
 
 // Whether the scope into which the server leads has a match that the pattern fits there.

@@ -6,7 +6,7 @@ use std::error::Error;
 use std::fmt;
 
 /// A text isn't `RELAY:SCOPE:INDEX`, and prints that.
-#[derive(Clone, Copy, Debug, PartialEq, Eq)]
+#[derive(Clone, Copy)]
 pub struct NameError;
 
 impl fmt::Display for NameError {
@@ -20,11 +20,18 @@ impl fmt::Display for NameError {
     }
 }
 
+// As it is displayed.
+impl fmt::Debug for NameError {
+    fn fmt<W: fmt::Write>(&self, f: &mut fmt::Formatter<W>) -> fmt::Result {
+        fmt::Display::fmt(self, f)
+    }
+}
+
 impl Error for NameError {}
 
 /// Why a plan isn't changed. Names are counted from 0, in the order in which they are given; prints
 /// what is missing, without that place.
-#[derive(Clone, Copy, Debug, PartialEq, Eq)]
+#[derive(Clone, Copy)]
 pub enum DropError {
     /// No relay of the plan has the number of the name at this place.
     NoRelay(usize),
@@ -43,12 +50,19 @@ impl fmt::Display for DropError {
     ghost output = { λ error. Some (error_text error) };
 
     fn fmt<W: fmt::Write>(&self, f: &mut fmt::Formatter<W>) -> fmt::Result {
-        match self {
-            DropError::NoRelay(_) => f.write_str("no relay of the plan has this number"),
-            DropError::NoScope(_) => f.write_str("the relay has no such scope"),
-            DropError::NoMatch(_) => f.write_str("the scope has no match with this index"),
-            DropError::Memory => f.write_str("memory"),
-        }
+        f.write_str(match self {
+            DropError::NoRelay(_) => "no relay of the plan has this number",
+            DropError::NoScope(_) => "the relay has no such scope",
+            DropError::NoMatch(_) => "the scope has no match with this index",
+            DropError::Memory => "memory",
+        })
+    }
+}
+
+// As it is displayed.
+impl fmt::Debug for DropError {
+    fn fmt<W: fmt::Write>(&self, f: &mut fmt::Formatter<W>) -> fmt::Result {
+        fmt::Display::fmt(self, f)
     }
 }
 
@@ -77,7 +91,7 @@ impl<T: Drop> From<AllocFailed<T>> for DropError {
 }
 
 /// Why texts and names give no plan.
-#[derive(Clone, Copy, Debug, PartialEq, Eq)]
+#[derive(Clone, Copy)]
 pub enum DroppedPlanError {
     /// The texts say no plan, or memory ran out.
     Plan(PlanError),
@@ -93,9 +107,16 @@ impl fmt::Display for DroppedPlanError {
 
     fn fmt<W: fmt::Write>(&self, f: &mut fmt::Formatter<W>) -> fmt::Result {
         match self {
-            DroppedPlanError::Plan(error) => write!(f, "{error}"),
-            DroppedPlanError::Drop(error) => write!(f, "{error}"),
+            DroppedPlanError::Plan(error) => fmt::Display::fmt(error, f),
+            DroppedPlanError::Drop(error) => fmt::Display::fmt(error, f),
         }
+    }
+}
+
+// As it is displayed.
+impl fmt::Debug for DroppedPlanError {
+    fn fmt<W: fmt::Write>(&self, f: &mut fmt::Formatter<W>) -> fmt::Result {
+        fmt::Display::fmt(self, f)
     }
 }
 

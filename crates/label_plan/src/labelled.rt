@@ -11,7 +11,7 @@ ghost use Rattle.label_plan.specs.Lines.{OnlyAdds};
 use crate::certificate::{is_closed, is_kept, only_adds};
 use crate::derive::derived;
 use crate::error::{DropError, DroppedPlanError};
-use crate::manner::{Manner, Preference};
+use crate::manner::Manner;
 use crate::name::DropName;
 use crate::plan::plan_with_drops;
 use plan_lines::{Plan, PlanError, conf_names};
@@ -106,35 +106,41 @@ fn preferred<A: Allocator + Copy>(
         (λ found. IfSome found
         (λ found. IsLabelledDropping A (texts confs.now) drops.now net.now found.text.items)) }
 {
-    let prefer = Preference::Label;
-    let one = attempt(alloc, net, confs, drops, plan, Manner { prefer, widest })?;
-    if let Some(found) = &one {
-        if found.is_kept {
-            return Ok(one);
-        }
+    let by_label = Manner {
+        prefers_label: true,
+        widest,
+    };
+    let one = attempt(alloc, net, confs, drops, plan, by_label)?;
+    if keeps(&one) {
+        return Ok(one);
     }
-    let prefer = Preference::Match;
-    let two = attempt(alloc, net, confs, drops, plan, Manner { prefer, widest })?;
+    let by_match = Manner {
+        prefers_label: false,
+        widest,
+    };
+    let two = attempt(alloc, net, confs, drops, plan, by_match)?;
     Ok(better(one, two))
 }
 
-// The second one where it alone keeps the other rules, or there is no first.
+// Whether there is one, and the other rules hold of it.
+fn keeps<A: Allocator>(attempt: &Option<Candidate<A>>) -> bool {
+    match attempt {
+        Some(found) => found.is_kept,
+        None => false,
+    }
+}
+
+// The second one where it keeps the other rules, or there is no first.
 fn better<A: Allocator>(
     one: Option<Candidate<A>>,
     two: Option<Candidate<A>>,
 ) -> Option<Candidate<A>>
     ensures { (result ≡ one) ⊎ (result ≡ two) }
 {
-    match (one, two) {
-        (Some(one), Some(two)) => {
-            if two.is_kept && !one.is_kept {
-                Some(two)
-            } else {
-                Some(one)
-            }
-        }
-        (Some(one), None) => Some(one),
-        (None, two) => two,
+    if one.is_none() || keeps(&two) {
+        two
+    } else {
+        one
     }
 }
 

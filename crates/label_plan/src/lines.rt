@@ -1,7 +1,7 @@
 //! Labels and reaches as lines of a plan.
 
 use crate::pattern::put_pattern;
-use relay_net::{Entrance, Net};
+use relay_net::{Entrance, Net, Node};
 use std::alloc::{AllocError, Allocator};
 use tag_pattern::Plain;
 
@@ -13,7 +13,7 @@ pub(crate) fn put_label<A: Allocator + Copy>(
     at: Entrance,
     pattern: &Plain<A>,
 ) -> Result<(), AllocError> {
-    out.extend_from_slice(b"label ")?;
+    out.extend_from_slice(b"label")?;
     put_scope(alloc, out, net, at)?;
     put_pattern(out, pattern)?;
     out.extend_from_slice(b"\n")
@@ -28,14 +28,14 @@ pub(crate) fn put_reach<A: Allocator + Copy>(
     rule: usize,
     pattern: &Plain<A>,
 ) -> Result<(), AllocError> {
-    out.extend_from_slice(b"reach ")?;
+    out.extend_from_slice(b"reach")?;
     put_scope(alloc, out, net, at)?;
-    out.extend_from_slice(format!(in alloc; "{rule} ")?.as_bytes())?;
+    put_number(alloc, out, rule)?;
     put_pattern(out, pattern)?;
     out.extend_from_slice(b"\n")
 }
 
-// Appends the relay's number and the scope, each with a space behind it.
+// Appends the relay's number and the scope, each behind a space.
 fn put_scope<A: Allocator + Copy>(
     alloc: A,
     out: &mut Vec<u8, A>,
@@ -45,11 +45,25 @@ fn put_scope<A: Allocator + Copy>(
     let Some(node) = net.relays().get(at.relay) else {
         return Ok(());
     };
-    let number = node.number;
-    out.extend_from_slice(format!(in alloc; "{number} ")?.as_bytes())?;
-    match node.relay.scopes.get(at.scope) {
-        Some(scope) if at.scope > 0 => out.extend_from_slice(scope.name.as_bytes())?,
-        _ => out.push(b'.')?,
+    put_number(alloc, out, node.number as usize)?;
+    out.extend_from_slice(b" ")?;
+    out.extend_from_slice(scope_word(node, at.scope))
+}
+
+// Appends the number behind a space.
+fn put_number<A: Allocator + Copy>(
+    alloc: A,
+    out: &mut Vec<u8, A>,
+    number: usize,
+) -> Result<(), AllocError> {
+    let digits = format!(in alloc; " {number}")?;
+    out.extend_from_slice(digits.as_bytes())
+}
+
+// The word that names the scope of the relay.
+fn scope_word<A: Allocator>(node: &Node<A>, scope: usize) -> &[u8] {
+    match node.relay.scopes.get(scope) {
+        Some(found) if scope > 0 => found.name.as_bytes(),
+        _ => b".",
     }
-    out.extend_from_slice(b" ")
 }

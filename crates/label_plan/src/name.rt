@@ -11,7 +11,7 @@ use std::fmt;
 
 /// The name of a match, as `RELAY:SCOPE:INDEX`: in the words in which a plan's `reach` line names
 /// it.
-#[derive(Clone, Copy, PartialEq, Eq)]
+#[derive(Clone, Copy)]
 pub struct DropName<'t> {
     /// The relay's number. Of relays with equal numbers the first is meant.
     pub relay: u32,

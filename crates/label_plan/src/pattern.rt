@@ -1,7 +1,7 @@
 //! Plain patterns: copied, with a prefix in front, widened, and as text.
 
 use std::alloc::{AllocError, Allocator};
-use tag_pattern::{PatternItem, Plain, Prefix, fits};
+use tag_pattern::{PatternItem, Plain, Prefix, copied_item};
 
 /// The items of a pattern.
 pub(crate) type Items<A> = Vec<PatternItem<Vec<u8, A>>, A>;
@@ -14,9 +14,7 @@ pub(crate) fn copied<A: Allocator + Copy>(
     alloc: A,
     pattern: &Plain<A>,
 ) -> Result<Plain<A>, AllocError> {
-    let mut items = Vec::new(alloc);
-    push_items(alloc, &mut items, pattern.items())?;
-    plain_of(alloc, items)
+    copy_of(alloc, pattern.items())
 }
 
 /// The pattern with the prefix's parts in front; `**` where that has too many items.
@@ -26,9 +24,7 @@ pub(crate) fn prefixed<A: Allocator + Copy>(
     pattern: &Plain<A>,
 ) -> Result<Plain<A>, AllocError> {
     let longer = pattern.prefixed(alloc, prefix)?;
-    let mut items = Vec::new(alloc);
-    push_items(alloc, &mut items, longer.items())?;
-    plain_of(alloc, items)
+    copy_of(alloc, longer.items())
 }
 
 /// The pattern with `**` in front, unless it begins with that: it has each tag that a prefix makes
@@ -52,32 +48,42 @@ pub(crate) fn any_tag<A: Allocator + Copy>(alloc: A) -> Result<Plain<A>, AllocEr
     Ok(Plain::new(items))
 }
 
-/// Whether the pattern fits one of the others.
-pub(crate) fn fits_any<A: Allocator>(pattern: &Plain<A>, others: &[Plain<A>]) -> bool {
-    others.iter().any(|other| fits(pattern, other))
-}
-
-/// Appends the pattern's text: its parts, with dots between them.
+/// Appends the pattern's text behind a space: its parts, with dots between them.
 pub(crate) fn put_pattern<A: Allocator>(
     out: &mut Vec<u8, A>,
     pattern: &Plain<A>,
 ) -> Result<(), AllocError> {
-    for (place, item) in pattern.items().iter().enumerate() {
-        if place > 0 {
-            out.push(b'.')?;
-        }
-        match item {
-            PatternItem::Literal(text) => out.extend_from_slice(text)?,
-            PatternItem::AnyPart => out.extend_from_slice(b"*")?,
-            PatternItem::AnyParts => out.extend_from_slice(b"**")?,
-        }
+    let mut between = b" ";
+    for item in pattern.items() {
+        out.extend_from_slice(between)?;
+        out.extend_from_slice(text_of(item))?;
+        between = b".";
     }
     Ok(())
+}
+
+// The item's text.
+fn text_of<A: Allocator>(item: &PatternItem<Vec<u8, A>>) -> &[u8] {
+    match item {
+        PatternItem::Literal(text) => text,
+        PatternItem::AnyPart => b"*",
+        PatternItem::AnyParts => b"**",
+    }
 }
 
 // Whether the pattern's first item is `**`.
 fn begins_with_any<A: Allocator>(pattern: &Plain<A>) -> bool {
     matches!(pattern.items().first(), Some(PatternItem::AnyParts))
+}
+
+// The pattern of copies of these items; `**` where there are too many.
+fn copy_of<A: Allocator + Copy>(
+    alloc: A,
+    items: &[PatternItem<Vec<u8, A>>],
+) -> Result<Plain<A>, AllocError> {
+    let mut own = Vec::new(alloc);
+    push_items(alloc, &mut own, items)?;
+    plain_of(alloc, own)
 }
 
 // The pattern of these items; `**` where there are too many.
@@ -96,11 +102,7 @@ fn push_items<A: Allocator + Copy>(
     others: &[PatternItem<Vec<u8, A>>],
 ) -> Result<(), AllocError> {
     for other in others {
-        items.push(match other {
-            PatternItem::Literal(text) => PatternItem::Literal(Vec::from_slice(alloc, text)?),
-            PatternItem::AnyPart => PatternItem::AnyPart,
-            PatternItem::AnyParts => PatternItem::AnyParts,
-        })?;
+        items.push(copied_item(alloc, other)?)?;
     }
     Ok(())
 }

@@ -15,7 +15,7 @@ use relay_net::Node;
 use std::alloc::Allocator;
 
 /// Where a match stands, and its line.
-#[derive(Clone, Copy, PartialEq, Eq)]
+#[derive(Clone, Copy)]
 pub struct MatchPlace {
     /// The place of the relay in the plan, counted from 0.
     pub place: usize,

@@ -5,14 +5,14 @@ use std::alloc::Allocator;
 use tag_pattern::Plain;
 
 /// A source that puts a prefix in front: the place of its relay, and its port.
-#[derive(Clone, Copy, PartialEq, Eq)]
+#[derive(Clone, Copy)]
 pub(crate) struct Gate {
     pub relay: usize,
     pub port: u16,
 }
 
 /// How a label came to be.
-#[derive(Clone, Copy, PartialEq, Eq)]
+#[derive(Clone, Copy)]
 pub(crate) struct Origin {
     /// The task of the label that it comes from, if it comes from one.
     pub from: Option<usize>,
@@ -43,13 +43,24 @@ pub(crate) const FIRST: Origin = Origin {
 pub(crate) fn has_passed<A: Allocator>(tasks: &[Task<A>], from: Option<usize>, gate: Gate) -> bool {
     let mut next = from;
     for _ in 0..tasks.len() {
-        let Some(task) = next.and_then(|at| tasks.get(at)) else {
+        let Some(at) = next else {
             return false;
         };
-        if task.origin.gate == Some(gate) {
+        let Some(task) = tasks.get(at) else {
+            return false;
+        };
+        if came_through(task.origin, gate) {
             return true;
         }
         next = task.origin.from;
     }
     false
+}
+
+// Whether what came to be so came in through the gate.
+fn came_through(origin: Origin, gate: Gate) -> bool {
+    match origin.gate {
+        Some(found) => found.relay == gate.relay && found.port == gate.port,
+        None => false,
+    }
 }
