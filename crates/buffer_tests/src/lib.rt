@@ -1,25 +1,13 @@
-//! Tests of folders and what is kept in them: a sink's files, a buffer with its journal's records, and
-//! shared buffers with receipts, pendings, claims and audits of their books.
+//! Tests of folders of the system, of an open sink, and of what no clause says of buffers; and each
+//! request for memory of each call below the relay, refused in turn.
 #![tactic(auto)]
 
-#[cfg(test)]
-mod audits;
-#[cfg(test)]
-mod buffers;
-#[cfg(test)]
-mod claims;
-#[cfg(test)]
-mod deliveries;
 #[cfg(test)]
 mod devices;
 #[cfg(test)]
 mod folders;
 #[cfg(test)]
-mod outlines;
-#[cfg(test)]
 mod parts;
-#[cfg(test)]
-mod pendings;
 #[cfg(test)]
 mod real;
 #[cfg(test)]
@@ -31,8 +19,6 @@ mod rotations;
 #[cfg(test)]
 mod script;
 #[cfg(test)]
+mod sharing;
+#[cfg(test)]
 mod shelves;
-#[cfg(test)]
-mod sinks;
-#[cfg(test)]
-mod stages;

@@ -1,98 +1,119 @@
-//! What is tried over a folder in memory, so that one function alone names that folder.
+//! What is tried over a folder in memory, so that one function alone names that folder and the
+//! allocator that refuses.
 
-use crate::devices::Stopping;
-use crate::script::{Course, go_through};
-use crate::{buffers, claims, deliveries, folders, pendings, rotations, sinks};
+use crate::devices::{NewDir, OnDevice};
+use crate::refusals::trial::{Heap, Refuses};
+use crate::refusals::{
+    buffers, deliveries, folders, handshakes, journals, putting, reading, shared, sinks,
+};
+use crate::{records, rotations, sharing};
 use disk_files::MemoryDir;
+use refusing_alloc::Refusing;
 use std::alloc::Global;
+use std::process::Abort;
 use std::sync::Wait;
 
-/// What is tried of folders, of the files in them, and of buffers.
+/// What is tried.
 #[derive(Clone, Copy)]
 pub enum Part {
-    /// What a stop leaves.
-    Stops,
-    /// Names of files, which are taken.
-    Names,
-    /// A sink's bytes, and its receipt.
-    Receipt,
-    /// Items of a sink's file.
-    Items,
-    /// A sink's last file.
-    LastFile,
-    /// Where the next file of an open sink begins.
-    NextFiles,
     /// An open sink behind a failure.
     Recovery,
-    /// How buffers go.
-    Courses(&'static [Course]),
-    /// Buffers in folders that are there.
-    Folders,
     /// What buffers tell their journals.
     Records,
-    /// Something of shared buffers.
-    Shared(Shared),
-}
-
-/// What is tried of shared buffers.
-#[derive(Clone, Copy)]
-pub enum Shared {
-    /// Purges of a chunk by entries of its own, and by others.
-    Own,
-    /// Purges of a chunk that can't be read.
-    Unread,
-    /// Drops of the oldest chunk.
-    Oldest,
-    /// Renewals of a long journal.
+    /// Files of the last number.
+    LastNumbers,
+    /// A drop of a shared buffer, and a renewal.
     Renewal,
-    /// A second receipt of one buffer.
-    Double,
-    /// A receipt of another delivery.
-    Strange,
-    /// Stubs that are settled.
-    Settled,
-    /// A copy that waits for room.
-    Copy,
-    /// A list that is redeemed, behind a stop.
-    Redeemed,
     /// The one sync of a list.
     OneSync,
+    /// Something without memory that needs no folder.
+    Alone(Alone),
+    /// Something without memory in a folder.
+    InFolder(InFolder),
 }
 
-// Whether shared buffers are as they should be in this.
-fn is_shared_so<R: Wait, D: Stopping>(rt: &R, alloc: Global, shared: Shared) -> bool {
-    match shared {
-        Shared::Own => claims::goes_by_its_own::<R, D>(alloc, rt),
-        Shared::Unread => claims::goes_once_read::<R, D>(alloc, rt),
-        Shared::Oldest => claims::drops_once::<R, D>(alloc, rt),
-        Shared::Renewal => claims::is_renewed::<R, D>(alloc, rt),
-        Shared::Double => deliveries::is_double::<R, D>(alloc, rt),
-        Shared::Strange => deliveries::is_strange::<R, D>(alloc, rt),
-        Shared::Settled => deliveries::stubs_are_settled::<R, D>(alloc, rt),
-        Shared::Copy => deliveries::copy_waits::<R, D>(alloc, rt),
-        Shared::Redeemed => pendings::outlive_a_stop::<R, D>(alloc, rt),
-        Shared::OneSync => pendings::take_one_sync::<R, D>(alloc, rt),
+/// What is tried without memory, and needs no folder.
+#[derive(Clone, Copy)]
+pub enum Alone {
+    /// What is written behind bytes.
+    Spellings,
+    /// Entries that are appended.
+    Entries,
+    /// Handshakes.
+    Handshakes,
+    /// Bytes that are read.
+    Bytes,
+    /// Messages that come by pieces.
+    Streams,
+    /// Journals that come by pieces.
+    Outlines,
+    /// Deliveries that are begun.
+    Deliveries,
+    /// Room for answers.
+    Rooms,
+}
+
+/// What is tried in a folder without memory.
+#[derive(Clone, Copy)]
+pub enum InFolder {
+    /// Calls of the folder.
+    Folders,
+    /// Calls of a buffer.
+    Calls,
+    /// Openings of a buffer.
+    Openings,
+    /// Calls of a shared buffer.
+    SharedCalls,
+    /// Audits of one.
+    SharedAudits,
+    /// Calls of a sink.
+    SinkCalls,
+    /// Openings of a sink.
+    SinkOpenings,
+}
+
+// Whether this asks for memory, and does without it as it should.
+fn asks<R: Abort, H: Refuses>(rt: &R, heap: H, alone: Alone) -> bool {
+    match alone {
+        Alone::Spellings => putting::each_put_asks::<R, H>(rt, heap),
+        Alone::Entries => putting::entries_ask::<R, H>(rt, heap),
+        Alone::Handshakes => handshakes::ask::<R, H>(rt, heap),
+        Alone::Bytes => reading::bytes_ask::<R, H>(rt, heap),
+        Alone::Streams => reading::streams_ask::<R, H>(rt, heap),
+        Alone::Outlines => journals::ask::<R, H>(rt, heap),
+        Alone::Deliveries => deliveries::deliveries_ask::<R, H>(rt, heap),
+        Alone::Rooms => deliveries::rooms_ask::<R, H>(rt, heap),
+    }
+}
+
+// The same of this in a folder.
+fn asks_in<R: Wait + Abort, H: Refuses, D: NewDir<H>>(rt: &R, heap: H, tried: InFolder) -> bool {
+    match tried {
+        InFolder::Folders => folders::ask::<R, H, D>(rt, heap),
+        InFolder::Calls => buffers::calls_ask::<R, H, D>(rt, heap),
+        InFolder::Openings => buffers::openings_ask::<R, H, D>(rt, heap),
+        InFolder::SharedCalls => shared::calls_ask::<R, H, D>(rt, heap),
+        InFolder::SharedAudits => shared::audits_ask::<R, H, D>(rt, heap),
+        InFolder::SinkCalls => sinks::calls_ask::<R, H, D>(rt, heap),
+        InFolder::SinkOpenings => sinks::openings_ask::<R, H, D>(rt, heap),
     }
 }
 
 // Whether all is as it should be in this.
-fn is_so<R: Wait, D: Stopping>(rt: &R, alloc: Global, part: Part) -> bool {
+fn is_so<R: Wait + Abort, H: Refuses, D: OnDevice<H>>(rt: &R, heap: H, part: Part) -> bool {
     match part {
-        Part::Stops => folders::are_left::<D>(alloc),
-        Part::Names => folders::are_taken_until_a_stop::<D>(alloc),
-        Part::Receipt => sinks::outlives_a_stop::<D>(alloc),
-        Part::Items => sinks::are_items::<D>(alloc),
-        Part::LastFile => sinks::are_told::<D>(alloc),
-        Part::NextFiles => rotations::are_next::<D>(alloc),
-        Part::Recovery => rotations::recover::<D>(alloc),
-        Part::Courses(courses) => go_through::<D>(alloc, courses),
-        Part::Folders => buffers::go_on::<D>(alloc),
-        Part::Records => buffers::are_told::<D>(alloc),
-        Part::Shared(shared) => is_shared_so::<R, D>(rt, alloc, shared),
+        Part::Recovery => rotations::recover::<H, D>(heap),
+        Part::Records => records::are_told::<H, D>(heap),
+        Part::LastNumbers => records::are_last::<H, D>(heap),
+        Part::Renewal => sharing::renewal_fails::<R, H, D>(rt, heap),
+        Part::OneSync => sharing::take_one_sync::<R, H, D>(rt, heap),
+        Part::Alone(alone) => asks::<R, H>(rt, heap, alone),
+        Part::InFolder(tried) => asks_in::<R, H, D>(rt, heap, tried),
     }
 }
 
 /// Whether all is as it should be in this, over folders in memory.
-pub fn in_memory<R: Wait>(rt: &R, alloc: Global, part: Part) -> bool {
-    is_so::<R, MemoryDir<Global>>(rt, alloc, part)
+pub fn in_memory<R: Wait + Abort>(rt: &R, alloc: Global, part: Part) -> bool {
+    let heap = Refusing::new(alloc);
+    is_so::<R, Heap<'_>, MemoryDir<Heap<'_>>>(rt, &heap, part)
 }

@@ -1,102 +1,56 @@
-//! Journals by their bytes.
+//! Buffers: what they tell their journals, and files of the last number.
 
-use crate::audits::is_printed;
-use buffer_state::{Chunks, Stage};
-use chunk_journal::{ReplayError, replay};
-use std::alloc::Global;
+use crate::devices::NewDir;
+use crate::folders::{has_one, put_file};
+use crate::parts::{Part, in_memory};
+use crate::script::{Act, open, played};
+use buffer_store::{BufferFault, RENEWED_PAST_IN_MEMORY};
+use disk_files::Dir;
+use sink_series::{Series, SeriesFault};
+use std::alloc::Allocator;
 
-// A Seal of 0, one entry for chunk 0 of tag `a`, and its Queue.
-static JOURNAL: [u8; 49] =
-    *b"\0\0\0\x09\x01\0\0\0\0\0\0\0\0\0\0\0\x13\x02\0\0\0\0\0\0\0\0\0\x01a\0\0\0\x01\x92\x01\x80\0\0\0\x09\x03\0\0\0\0\0\0\0\0";
-
-// Whether replaying uses so many bytes, and gives the next serial and the stage of chunk 0.
-fn gives(alloc: Global, bytes: &[u8], used: usize, next: u64, stage: Option<Stage>) -> bool {
-    match replay(alloc, bytes) {
-        Ok(replayed) => {
-            replayed.used == used
-                && replayed.chunks.next() == next
-                && stage_of(&replayed.chunks) == stage
-        }
-        Err(_) => false,
-    }
+// What a buffer tells its journal, and the one file that is left then.
+struct Told {
+    steps: &'static [Act],
+    name: &'static [u8],
+    bytes: &'static [u8],
 }
 
-// The stage of chunk 0.
-fn stage_of(chunks: &Chunks<Global>) -> Option<Stage> {
-    match chunks.chunk(0) {
-        None => None,
-        Some(chunk) => Some(chunk.stage()),
-    }
-}
-
-// Whether replaying fails so.
-fn fails(alloc: Global, bytes: &[u8], fault: ReplayError) -> bool {
-    match replay(alloc, bytes) {
-        Ok(_) => false,
-        Err(found) => found == fault,
-    }
-}
-
-// Whether a beginning of the journal, of so many bytes, means what it should.
-fn is_cut(alloc: Global, bytes: &[u8], n: usize) -> bool {
-    match n {
-        0..=12 => fails(alloc, bytes, ReplayError::NotSealed),
-        13..=35 => gives(alloc, bytes, 13, 0, None),
-        36..=48 => gives(alloc, bytes, 36, 1, Some(Stage::Staged)),
-        _ => gives(alloc, bytes, 49, 1, Some(Stage::Queued)),
-    }
-}
-
-// Whether each beginning does.
-fn are_cuts(alloc: Global) -> bool {
-    for n in 0..50 {
-        if !is_cut(alloc, &JOURNAL[..n], n) {
-            return false;
-        }
-    }
-    true
-}
-
-#[test]
-fn each_cut_of_a_journal(rt: HostRuntime) {
-    assert!(rt; are_cuts(rt.alloc()));
-}
-
-// Chunk 0, which is queued, and chunk 3, both of tag `a`; a Seal of 9; one more entry for chunk 3,
-// chunk 9 of tag `b`, the Queue of 3, and the Purge of 0.
-static GENERATION: &[u8] =
-    b"\0\0\0\x13\x02\0\0\0\0\0\0\0\0\0\x01a\0\0\0\x01\x92\x01\x80\0\0\0\x09\x03\0\0\0\0\0\0\0\0\0\0\0\x13\x02\0\0\0\0\0\0\0\x03\0\x01a\0\0\0\x01\x92\x01\x80\0\0\0\x09\x01\0\0\0\0\0\0\0\x09\0\0\0\x13\x02\0\0\0\0\0\0\0\x03\0\x01a\0\0\0\x01\x92\x01\x80\0\0\0\x13\x02\0\0\0\0\0\0\0\x09\0\x01b\0\0\0\x01\x92\x01\x80\0\0\0\x09\x03\0\0\0\0\0\0\0\x03\0\0\0\x09\x04\0\0\0\0\0\0\0\0";
-
-// Whether all of it is used, no chunk 0 is left, and the next is 10.
-fn is_generation(alloc: Global) -> bool {
-    gives(alloc, GENERATION, GENERATION.len(), 10, None)
-}
-
-#[test]
-fn a_generation_with_chunks(rt: HostRuntime) {
-    assert!(rt; is_generation(rt.alloc()));
-}
-
-// No record begins so: a length of 0, one too long, kinds that aren't, a Seal too short and too
-// long, an Append whose tag passes its end, one entry too many, one too few, and an entry that
-// isn't stored so.
-static BAD: [&[u8]; 10] = [
-    b"\0\0\0\0",
-    b"\x01\0\0\x01",
-    b"\0\0\0\x01\0",
-    b"\0\0\0\x09\x05\0\0\0\0\0\0\0\0",
-    b"\0\0\0\x08\x01\0\0\0\0\0\0\0",
-    b"\0\0\0\x0a\x01\0\0\0\0\0\0\0\0\0",
-    b"\0\0\0\x13\x02\0\0\0\0\0\0\0\0\0\x05a\0\0\0\x01\x92\x01\x80",
-    b"\0\0\0\x13\x02\0\0\0\0\0\0\0\0\0\x01a\0\0\0\0\x92\x01\x80",
-    b"\0\0\0\x13\x02\0\0\0\0\0\0\0\0\0\x01a\0\0\0\x02\x92\x01\x80",
-    b"\0\0\0\x13\x02\0\0\0\0\0\0\0\0\0\x01a\0\0\0\x01\x93\x01\x80",
+static TOLD: [Told; 2] = [
+    // A Seal of 0, one entry for chunk 0 of tag `a`, its Queue, and its Purge.
+    Told {
+        steps: &[
+            Act::Append(b'a', 1),
+            Act::Enqueue(0),
+            Act::Claim,
+            Act::Purge(0),
+        ],
+        name: b"buf.0000000001.journal",
+        bytes: b"\0\0\0\x09\x01\0\0\0\0\0\0\0\0\0\0\0\x13\x02\0\0\0\0\0\0\0\0\0\x01a\0\0\0\x01\x92\x01\x80\0\0\0\x09\x03\0\0\0\0\0\0\0\0\0\0\0\x09\x04\0\0\0\0\0\0\0\0",
+    },
+    // A new generation begins with what is live, and then has the Seal of the next serial.
+    Told {
+        steps: &[Act::Append(b'a', 1), Act::Enqueue(0), Act::Renew],
+        name: b"buf.0000000002.journal",
+        bytes: b"\0\0\0\x13\x02\0\0\0\0\0\0\0\0\0\x01a\0\0\0\x01\x92\x01\x80\0\0\0\x09\x03\0\0\0\0\0\0\0\0\0\0\0\x09\x01\0\0\0\0\0\0\0\x01",
+    },
 ];
 
-// Whether replaying says so of each.
-fn are_bad(alloc: Global) -> bool {
-    for bytes in &BAD {
-        if !fails(alloc, bytes, ReplayError::BadRecord) {
+// Whether the buffer in this folder, which is empty, tells that.
+fn is_told<A: Allocator + Copy, D: Dir + Drop>(alloc: A, dir: D, told: &Told) -> bool {
+    match played(alloc, dir, told.steps) {
+        Some(buffer) => {
+            let mut dir = buffer.into_dir();
+            has_one(alloc, &mut dir, told.name, told.bytes)
+        }
+        None => false,
+    }
+}
+
+/// Whether buffers tell each.
+pub fn are_told<A: Allocator + Copy, D: NewDir<A>>(alloc: A) -> bool {
+    for told in &TOLD {
+        if !is_told(alloc, D::made(alloc), told) {
             return false;
         }
     }
@@ -104,17 +58,40 @@ fn are_bad(alloc: Global) -> bool {
 }
 
 #[test]
-fn what_is_no_record(rt: HostRuntime) {
-    assert!(rt; are_bad(rt.alloc()));
+fn records_are_spelled_so(rt: HostRuntime) {
+    assert!(rt; in_memory(&rt, rt.alloc(), Part::Records));
 }
 
-// Whether faults print their codes.
-fn are_printed(alloc: Global) -> bool {
-    is_printed(alloc, &ReplayError::NotSealed, "J1")
-        && is_printed(alloc, &ReplayError::BadRecord, "J2")
+// A new folder, which gets an empty file of this name.
+fn with_file<A: Allocator + Copy, D: NewDir<A>>(alloc: A, name: &[u8]) -> D {
+    let mut dir = D::made(alloc);
+    let _ = put_file(&mut dir, name, b"");
+    dir
+}
+
+// Whether no buffer opens in this folder, since there is no further number.
+fn is_last_journal<A: Allocator + Copy, D: Dir + Drop>(alloc: A, dir: D) -> bool {
+    matches!(
+        open(alloc, dir, RENEWED_PAST_IN_MEMORY),
+        Err((BufferFault::LastSerial, _))
+    )
+}
+
+// Whether no sink does.
+fn is_last_sink<A: Allocator + Copy, D: Dir + Drop>(alloc: A, dir: D) -> bool {
+    matches!(
+        Series::open(alloc, dir, b"out"),
+        Err((SeriesFault::LastNumber, _))
+    )
+}
+
+/// Whether neither opens behind its file of the last number.
+pub fn are_last<A: Allocator + Copy, D: NewDir<A>>(alloc: A) -> bool {
+    is_last_journal(alloc, with_file::<A, D>(alloc, b"buf.4294967295.journal"))
+        && is_last_sink(alloc, with_file::<A, D>(alloc, b"out.4294967295.sink"))
 }
 
 #[test]
-fn faults_are_printed_so(rt: HostRuntime) {
-    assert!(rt; are_printed(rt.alloc()));
+fn last_numbers(rt: HostRuntime) {
+    assert!(rt; in_memory(&rt, rt.alloc(), Part::LastNumbers));
 }

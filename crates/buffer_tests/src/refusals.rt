@@ -2,17 +2,17 @@
 //! and the next try succeeds.
 
 mod acts;
-mod buffers;
-mod deliveries;
+pub mod buffers;
+pub mod deliveries;
 mod files;
-mod folders;
-mod handshakes;
-mod journals;
-mod parts;
-mod putting;
-mod reading;
-mod shared;
-mod shop;
-mod sinks;
-mod told;
-mod trial;
+pub mod folders;
+pub mod handshakes;
+pub mod journals;
+mod opening;
+pub mod putting;
+pub mod reading;
+pub mod shared;
+pub mod shop;
+pub mod sinks;
+pub mod told;
+pub mod trial;

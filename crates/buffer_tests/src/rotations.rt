@@ -1,17 +1,15 @@
-//! A sink that stays open: when its next file is begun, that the older ones are closed, and that it
+//! A sink that stays open: that its next files are begun and the older ones closed, and that it
 //! takes entries again behind a failure.
 
-use crate::devices::{Failing, Stopping};
-use crate::folders::bytes_of;
+use crate::devices::OnDevice;
+use crate::folders::count_in;
 use crate::parts::{Part, in_memory};
 use crate::real::{Real, on_disk};
-use crate::shelves::ENTRY;
-use crate::sinks::{count_in, opened};
+use crate::script::entries;
 use disk_files::Dir;
 use event_modes::Entries;
-use sink_series::{FileLimits, Rotation};
-use std::alloc::Global;
-use std::fs;
+use sink_series::{FileLimits, Rotation, Series};
+use std::alloc::Allocator;
 
 const LIMITS: FileLimits = FileLimits {
     bytes: 6,
@@ -19,113 +17,93 @@ const LIMITS: FileLimits = FileLimits {
     pause: 50,
 };
 
-// Writes an entry at each of these times: how many are taken, whether the last is, and the folder
-// then.
-fn write_each<D: Dir + Drop>(
-    sink: Rotation<D, Global>,
-    entries: &Entries<Global>,
+// How many entries a sink took, and whether it took the last.
+#[derive(Clone, Copy)]
+struct Taken {
+    count: usize,
+    is_last: bool,
+}
+
+// Writes an entry at each of these times: what is taken, and the folder then.
+fn write_each<A: Allocator + Copy, D: Dir>(
+    sink: Rotation<D, A>,
+    one: &Entries<A>,
     times: &[u64],
-) -> (usize, bool, D) {
+) -> (Taken, D) {
     let mut sink = sink;
-    let mut taken: usize = 0;
-    let mut is_last_taken = false;
+    let mut taken = Taken {
+        count: 0,
+        is_last: false,
+    };
     for time in times {
-        let (next, stored) = sink.write_all_entries(*time, b"a", entries);
+        let (next, stored) = sink.write_all_entries(*time, b"a", one);
         sink = next;
-        is_last_taken = stored.is_ok();
-        if is_last_taken {
-            taken = taken.saturating_add(1);
-        }
+        taken.is_last = stored.is_ok();
+        taken.count = taken.count.saturating_add(usize::from(taken.is_last));
     }
-    (taken, is_last_taken, sink.into_dir())
+    (taken, sink.into_dir())
 }
 
 // The same of entries of three bytes and a new sink in this folder.
-fn written<D: Dir + Drop>(alloc: Global, dir: D, times: &[u64]) -> Option<(usize, bool, D)> {
-    let Ok(Some(entries)) = Entries::read(alloc, ENTRY, 1) else {
+fn written<A: Allocator + Copy, D: Dir + Drop>(
+    alloc: A,
+    dir: D,
+    times: &[u64],
+) -> Option<(Taken, D)> {
+    let Some(one) = entries(alloc, 1) else {
         return None;
     };
     match Rotation::open(alloc, dir, b"out", LIMITS, 0) {
-        Ok(sink) => Some(write_each(sink, &entries, times)),
+        Ok(sink) => Some(write_each(sink, &one, times)),
         Err(_) => None,
     }
 }
 
-// How many bytes the file of this name has.
-fn length_of<D: Dir>(alloc: Global, dir: &mut D, name: &[u8]) -> Option<usize> {
-    match bytes_of(alloc, dir, name) {
-        Ok(bytes) => Some(bytes.len()),
-        Err(_) => None,
+// How many events a sink has; none where it can't be read.
+fn events_in<A: Allocator + Copy, D: Dir>(series: &mut Series<D, A>) -> usize {
+    match series.content() {
+        Ok(events) => events.len(),
+        Err(_) => 0,
     }
 }
 
-// How many bytes the first three files have, if they are there.
-type Lengths = [Option<usize>; 3];
-
-fn lengths_in<D: Dir + Drop>(alloc: Global, dir: D) -> Lengths {
-    let mut dir = dir;
-    [
-        length_of(alloc, &mut dir, b"out.0000000001.sink"),
-        length_of(alloc, &mut dir, b"out.0000000002.sink"),
-        length_of(alloc, &mut dir, b"out.0000000003.sink"),
-    ]
-}
-
-// Whether they have so many, where entries are written at these times in this folder.
-fn has_lengths<D: Dir + Drop>(alloc: Global, dir: D, times: &[u64], wanted: &Lengths) -> bool {
-    match written(alloc, dir, times) {
-        Some((_, _, dir)) => lengths_in(alloc, dir) == *wanted,
-        None => false,
-    }
-}
-
-// Times, and what is there then. Two items of five bytes have six of entries.
-static TIMES: [(&[u64], Lengths); 4] = [
-    (&[0, 1, 2], [Some(10), Some(5), None]),
-    (&[0, 999], [Some(10), None, None]),
-    (&[0, 1_000, 1_001], [Some(5), Some(10), None]),
-    (&[5_000, 5_001], [Some(5), Some(5), None]),
-];
-
-/// Whether they are so at each of these.
-pub fn are_next<D: Stopping>(alloc: Global) -> bool {
-    for (times, wanted) in &TIMES {
-        if !has_lengths(alloc, D::made(alloc), times, wanted) {
-            return false;
+// The same of the sink in this folder, and the folder then.
+fn read_in<A: Allocator + Copy, D: Dir + Drop>(alloc: A, dir: D) -> Option<(usize, D)> {
+    match Series::open(alloc, dir, b"out") {
+        Ok(mut series) => {
+            let events = events_in(&mut series);
+            Some((events, series.into_dir()))
         }
+        Err(_) => None,
     }
-    true
-}
-
-#[test]
-fn next_files(rt: HostRuntime) {
-    assert!(rt; in_memory(&rt, rt.alloc(), Part::NextFiles));
 }
 
 // Whether the sink in this folder has so many events or more.
-fn has_at_least<D: Dir + Drop>(alloc: Global, dir: D, taken: usize) -> bool {
-    match opened(alloc, dir, b"out") {
-        Some(mut series) => taken <= count_in(&mut series).unwrap_or(0),
+fn has_at_least<A: Allocator + Copy, D: Dir + Drop>(alloc: A, dir: D, count: usize) -> bool {
+    match read_in(alloc, dir) {
+        Some((events, _)) => count <= events,
         None => false,
     }
 }
 
 // Whether a sink on a device that fails one call, behind so many, takes entries again after the
 // pause, and has all that it took. True too where it can't be opened.
-fn recovers<D: Stopping>(alloc: Global, passes: u64) -> bool {
-    let device = D::made(alloc).on_device(Failing::At(passes));
+fn recovers<A: Allocator + Copy, D: OnDevice<A>>(alloc: A, passes: u64) -> bool {
+    let device = D::made(alloc).on_device(passes);
     match written(alloc, device, &[0, 1, 2, 49, 60, 120, 180]) {
-        Some((taken, is_last_taken, device)) => {
-            has_at_least(alloc, D::off_device(device), taken) && is_last_taken && 3 <= taken
+        Some((taken, device)) => {
+            has_at_least(alloc, D::off_device(device), taken.count)
+                && taken.is_last
+                && 3 <= taken.count
         }
         None => true,
     }
 }
 
 /// Whether sinks do, whichever call fails.
-pub fn recover<D: Stopping>(alloc: Global) -> bool {
+pub fn recover<A: Allocator + Copy, D: OnDevice<A>>(alloc: A) -> bool {
     for passes in 0..16 {
-        if !recovers::<D>(alloc, passes) {
+        if !recovers::<A, D>(alloc, passes) {
             return false;
         }
     }
@@ -137,66 +115,66 @@ fn takes_entries_again(rt: HostRuntime) {
     assert!(rt; in_memory(&rt, rt.alloc(), Part::Recovery));
 }
 
-// How many files this process has open.
-fn open_files(rt: &HostRuntime) -> Option<usize> {
-    match fs::read_dir(rt, "/proc/self/fd") {
-        Ok(entries) => Some(entries.count()),
-        Err(_) => None,
-    }
-}
-
-// Whether there are fewer than these.
-fn has_fewer(rt: &HostRuntime, most: usize) -> bool {
-    match open_files(rt) {
-        Some(count) => count < most,
-        None => false,
-    }
-}
-
 // Sixteen files, each begun a second behind the one before.
 static EACH_SECOND: [u64; 16] = [
     0, 1_000, 2_000, 3_000, 4_000, 5_000, 6_000, 7_000, 8_000, 9_000, 10_000, 11_000, 12_000,
     13_000, 14_000, 15_000,
 ];
 
-// Whether fewer files than these are open once sixteen were written in this folder, and the folder.
-fn closes<D: Dir + Drop>(
-    alloc: Global,
-    rt: &HostRuntime,
-    dir: D,
-    most: usize,
-) -> Option<(bool, D)> {
-    match written(alloc, dir, &EACH_SECOND) {
-        Some((taken, _, dir)) => Some((taken == 16 && has_fewer(rt, most), dir)),
-        None => None,
+// Whether a folder has fewer files than these.
+fn has_fewer<A: Allocator + Copy, D: Dir>(alloc: A, dir: &mut D, most: usize) -> bool {
+    match count_in(alloc, dir) {
+        Some(count) => count < most,
+        None => false,
     }
 }
 
-// The same while a sink in this folder is open, whose sixteen events were read.
-fn closes_read<D: Dir + Drop>(alloc: Global, rt: &HostRuntime, dir: D, most: usize) -> bool {
-    match opened(alloc, dir, b"out") {
-        Some(mut series) => {
-            let is_read = count_in(&mut series) == Some(16) && has_fewer(rt, most);
-            drop(series);
+// Whether sixteen events are read in this folder, and fewer files than these are open then.
+fn is_read<A: Allocator + Copy, D: Dir + Drop>(
+    alloc: A,
+    dir: D,
+    open: &mut D,
+    most: usize,
+) -> bool {
+    match read_in(alloc, dir) {
+        Some((events, dir)) => {
+            let is_read = events == 16 && has_fewer(alloc, open, most);
+            drop(dir);
             is_read
         }
         None => false,
     }
 }
 
-/// Whether both hold of this folder. Tests beside this one may open some files.
-pub fn are_closed<D: Dir + Drop>(alloc: Global, rt: &HostRuntime, dir: D) -> bool {
-    let Some(before) = open_files(rt) else {
-        return false;
-    };
-    let most = before.saturating_add(8);
-    match closes(alloc, rt, dir, most) {
-        Some((closes, dir)) => closes_read(alloc, rt, dir, most) && closes,
+// Whether sixteen files come of sixteen writes to a sink in this folder, and fewer files than these
+// are open then, and once all are read.
+fn stay_closed<A: Allocator + Copy, D: Dir + Drop>(
+    alloc: A,
+    dir: D,
+    open: &mut D,
+    most: usize,
+) -> bool {
+    match written(alloc, dir, &EACH_SECOND) {
+        Some((_, mut dir)) => {
+            let is_written = count_in(alloc, &mut dir) == Some(16) && has_fewer(alloc, open, most);
+            is_read(alloc, dir, open, most) && is_written
+        }
         None => false,
     }
 }
 
+/// Whether it is so in this folder, where the other one has a file for each that is open. Tests
+/// beside this one may open some files.
+pub fn are_closed<A: Allocator + Copy, D: Dir + Drop>(alloc: A, dir: D, open: &mut D) -> bool {
+    match count_in(alloc, open) {
+        Some(before) => stay_closed(alloc, dir, open, before.saturating_add(8)),
+        None => false,
+    }
+}
+
+static CLOSING: [(&str, Real); 1] = [("sink_closing_test", Real::Closing)];
+
 #[test]
 fn older_files_are_closed(rt: HostRuntime) {
-    assert!(rt; on_disk(&rt, "sink_closing_test", Real::Closing));
+    assert!(rt; on_disk(&rt, "sink_closing_test", &CLOSING));
 }

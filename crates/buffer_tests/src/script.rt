@@ -1,13 +1,10 @@
 //! Steps of a buffer as rows of a table, so that each call is proved once and a test is data.
 
-use crate::devices::{Failing, Stopping};
 use buffer_state::{Limits, Stage};
 use buffer_store::{Appended, Buffer, BufferFault, RENEWED_PAST_IN_MEMORY, Settings};
-use disk_files::{Dir, Keep};
+use disk_files::Dir;
 use event_modes::Entries;
-use std::alloc::{Allocator, Global};
-
-static ENTRY: [u8; 3] = [0x92, 0x01, 0x80];
+use std::alloc::Allocator;
 
 /// Limits that no test meets.
 pub const WIDE: Limits = Limits {
@@ -15,11 +12,7 @@ pub const WIDE: Limits = Limits {
     total: u64::MAX,
 };
 
-/// Opening a new folder asks for two lists, a file, an append and a sync. Then an append asks for
-/// an append and a sync.
-pub const OPENING: u64 = 5;
-
-/// A call of a buffer, or a look at it. A tag has one byte, and each entry is the same.
+/// A call of a buffer. A tag has one byte, and each entry is the same.
 #[derive(Clone, Copy)]
 pub enum Act {
     /// So many entries of this tag, which aren't synced.
@@ -33,46 +26,16 @@ pub enum Act {
     Purge(u64),
     DropOldest,
     Renew,
-    /// The next serial.
-    Next,
-    /// The first of the queue.
-    First,
-    /// The stage of the chunk of this serial.
-    Look(u64),
-    /// How many entries its body has.
+    /// The entries of a chunk.
     Body(u64),
-    /// What is shown of it.
-    Facts(u64),
-    /// How many bytes of entries all chunks have, as it is kept, and as their facts add up.
-    Total,
-    Sum,
-    /// Whether some append isn't synced.
-    HasStaged,
-    /// Whether the journal is long.
-    WantsRenewal,
 }
 
-/// What a step is answered by.
-#[derive(Clone, Copy, PartialEq, Eq)]
-pub enum Answer {
-    Done,
-    Nothing,
-    Serial(u64),
-    At(Stage),
-    Entries(usize),
-    /// The tag, and how many entries and bytes.
-    Facts(u8, usize, usize),
-    Bytes(u128),
-    Is(bool),
-    Refused(BufferFault),
-}
-
-/// A step, and its answer.
-pub type Row = (Act, Answer);
+/// An entry: a time and an empty record.
+pub const ENTRY: &[u8] = b"\x92\x01\x80";
 
 /// So many entries of three bytes.
 pub fn entries<A: Allocator + Copy>(alloc: A, count: usize) -> Option<Entries<A>> {
-    let Ok(Some(one)) = Entries::read(alloc, &ENTRY, 1) else {
+    let Ok(Some(one)) = Entries::read(alloc, ENTRY, 1) else {
         return None;
     };
     let mut all = Entries::new(alloc);
@@ -92,167 +55,105 @@ pub fn count_of(step: Act) -> usize {
     }
 }
 
-fn done(told: Result<(), BufferFault>) -> Answer {
+/// What a call is answered by: nothing but that it was done.
+pub fn done(told: Result<(), BufferFault>) -> Result<u64, BufferFault> {
     match told {
-        Ok(()) => Answer::Done,
-        Err(fault) => Answer::Refused(fault),
+        Ok(()) => Ok(0),
+        Err(fault) => Err(fault),
     }
 }
 
-fn appended(put: Result<Appended, BufferFault>) -> Answer {
+// The serial of what was appended.
+fn serial_of(put: Result<Appended, BufferFault>) -> Result<u64, BufferFault> {
     match put {
-        Ok(put) => Answer::Serial(put.serial),
-        Err(fault) => Answer::Refused(fault),
+        Ok(put) => Ok(put.serial),
+        Err(fault) => Err(fault),
     }
 }
 
-fn found(serial: Option<u64>) -> Answer {
-    match serial {
-        None => Answer::Nothing,
-        Some(serial) => Answer::Serial(serial),
-    }
-}
-
-fn stage<A: Allocator + Copy, D: Dir>(
+// Appends entries, and syncs them or not.
+fn add<A: Allocator + Copy, D: Dir>(
     buffer: &mut Buffer<D, A>,
     tag: u8,
     some: &Entries<A>,
-) -> Answer {
+    is_synced: bool,
+) -> Result<u64, BufferFault> {
     if some.count() == 0 {
-        return Answer::Nothing;
+        return Err(BufferFault::Gone);
     }
-    appended(buffer.stage(&[tag], some))
+    if is_synced {
+        serial_of(buffer.append(&[tag], some))
+    } else {
+        serial_of(buffer.stage(&[tag], some))
+    }
 }
 
-fn append<A: Allocator + Copy, D: Dir>(
-    buffer: &mut Buffer<D, A>,
-    tag: u8,
-    some: &Entries<A>,
-) -> Answer {
-    if some.count() == 0 {
-        return Answer::Nothing;
+fn claim<A: Allocator + Copy, D: Dir>(buffer: &mut Buffer<D, A>) -> Result<u64, BufferFault> {
+    match buffer.claim() {
+        Some(serial) => Ok(serial),
+        None => Err(BufferFault::Gone),
     }
-    appended(buffer.append(&[tag], some))
 }
 
 // Gives back a chunk that is claimed.
-fn give_back<A: Allocator + Copy, D: Dir>(buffer: &mut Buffer<D, A>, serial: u64) -> Answer {
-    if buffer.chunks().stage(serial) == Some(Stage::Claimed) {
-        buffer.give_back(serial);
-        return Answer::Done;
+fn give_back<A: Allocator + Copy, D: Dir>(
+    buffer: &mut Buffer<D, A>,
+    serial: u64,
+) -> Result<u64, BufferFault> {
+    if buffer.chunks().stage(serial) != Some(Stage::Claimed) {
+        return Err(BufferFault::Gone);
     }
-    Answer::Nothing
+    buffer.give_back(serial);
+    Ok(serial)
 }
 
-fn drop_oldest<A: Allocator + Copy, D: Dir>(buffer: &mut Buffer<D, A>) -> Answer {
-    match buffer.drop_oldest() {
-        Ok(serial) => Answer::Serial(serial),
-        Err(fault) => Answer::Refused(fault),
-    }
-}
-
-fn look<A: Allocator + Copy, D: Dir>(buffer: &Buffer<D, A>, serial: u64) -> Answer {
-    match buffer.chunks().stage(serial) {
-        None => Answer::Nothing,
-        Some(stage) => Answer::At(stage),
-    }
-}
-
-fn body<A: Allocator + Copy, D: Dir>(buffer: &mut Buffer<D, A>, serial: u64) -> Answer {
+fn body<A: Allocator + Copy, D: Dir>(
+    buffer: &mut Buffer<D, A>,
+    serial: u64,
+) -> Result<u64, BufferFault> {
     match buffer.body(serial) {
-        Ok(entries) => Answer::Entries(entries.count()),
-        Err(fault) => Answer::Refused(fault),
+        Ok(entries) => Ok(entries.count() as u64),
+        Err(fault) => Err(fault),
     }
 }
 
-fn facts<A: Allocator + Copy, D: Dir>(buffer: &Buffer<D, A>, serial: u64) -> Answer {
-    match buffer.chunks().facts(serial) {
-        Some(facts) if facts.serial == serial => match facts.tag {
-            [tag] => Answer::Facts(*tag, facts.count, facts.size),
-            _ => Answer::Nothing,
-        },
-        _ => Answer::Nothing,
-    }
-}
-
-fn sum<A: Allocator + Copy, D: Dir>(buffer: &Buffer<D, A>) -> Answer {
-    let mut sum = 0u128;
-    for facts in buffer.chunks().iter() {
-        sum = sum.saturating_add(facts.size as u128);
-    }
-    Answer::Bytes(sum)
-}
-
-// What a look at the buffer shows; nothing where the step isn't one.
-fn look_at<A: Allocator + Copy, D: Dir>(buffer: &mut Buffer<D, A>, step: Act) -> Answer {
-    match step {
-        Act::Next => Answer::Serial(buffer.chunks().next_serial()),
-        Act::First => found(buffer.chunks().first()),
-        Act::Look(serial) => look(buffer, serial),
-        Act::Body(serial) => body(buffer, serial),
-        Act::Facts(serial) => facts(buffer, serial),
-        Act::Total => Answer::Bytes(buffer.chunks().total()),
-        Act::Sum => sum(buffer),
-        Act::HasStaged => Answer::Is(buffer.has_staged()),
-        Act::WantsRenewal => Answer::Is(buffer.wants_renewal()),
-        _ => Answer::Nothing,
-    }
-}
-
-/// Takes the buffer through a step, with the entries that it appends.
+/// Takes the buffer through a step, with the entries that it appends: a serial or a number of
+/// entries, where it has such an answer.
 pub fn take<A: Allocator + Copy, D: Dir>(
     buffer: &mut Buffer<D, A>,
     some: &Entries<A>,
     step: Act,
-) -> Answer {
+) -> Result<u64, BufferFault> {
     match step {
-        Act::Stage(tag, _) => stage(buffer, tag, some),
-        Act::Append(tag, _) => append(buffer, tag, some),
+        Act::Stage(tag, _) => add(buffer, tag, some, false),
+        Act::Append(tag, _) => add(buffer, tag, some, true),
         Act::Sync => done(buffer.sync()),
         Act::Enqueue(serial) => done(buffer.enqueue(serial)),
-        Act::Claim => found(buffer.claim()),
+        Act::Claim => claim(buffer),
         Act::GiveBack(serial) => give_back(buffer, serial),
         Act::Purge(serial) => done(buffer.purge(serial)),
-        Act::DropOldest => drop_oldest(buffer),
+        Act::DropOldest => buffer.drop_oldest(),
         Act::Renew => done(buffer.renew()),
-        look => look_at(buffer, look),
+        Act::Body(serial) => body(buffer, serial),
     }
 }
 
-// What a step is answered by.
-fn answer_of<A: Allocator + Copy, D: Dir>(
-    alloc: A,
-    buffer: &mut Buffer<D, A>,
-    step: Act,
-) -> Answer {
+// Whether a step isn't refused.
+fn is_taken<A: Allocator + Copy, D: Dir>(alloc: A, buffer: &mut Buffer<D, A>, step: Act) -> bool {
     match entries(alloc, count_of(step)) {
-        Some(some) => take(buffer, &some, step),
-        None => Answer::Refused(BufferFault::Memory),
+        Some(some) => take(buffer, &some, step).is_ok(),
+        None => false,
     }
 }
 
-// Whether each step is answered as its row says; those behind one that isn't aren't taken.
-fn are_answered<A: Allocator + Copy, D: Dir>(
-    alloc: A,
-    buffer: &mut Buffer<D, A>,
-    rows: &[Row],
-) -> bool {
-    for (step, answer) in rows {
-        if answer_of(alloc, buffer, *step) != *answer {
-            return false;
-        }
-    }
-    true
-}
-
-/// The same where a step is answered by anything but a refusal.
-pub fn are_taken<A: Allocator + Copy, D: Dir>(
+// The same of each step; those behind one that is refused aren't taken.
+fn are_taken<A: Allocator + Copy, D: Dir>(
     alloc: A,
     buffer: &mut Buffer<D, A>,
     steps: &[Act],
 ) -> bool {
     for step in steps {
-        if matches!(answer_of(alloc, buffer, *step), Answer::Refused(_)) {
+        if !is_taken(alloc, buffer, *step) {
             return false;
         }
     }
@@ -264,79 +165,26 @@ pub fn are_taken<A: Allocator + Copy, D: Dir>(
 pub fn open<D: Dir, A: Allocator + Copy>(
     alloc: A,
     dir: D,
-    limits: Limits,
     renewed_past: u64,
 ) -> Result<Buffer<D, A>, (BufferFault, D)> {
     let settings = Settings {
-        limits,
+        limits: WIDE,
         renewed_past,
     };
     Buffer::open(alloc, dir, b"buf", settings)
 }
 
-/// How a buffer in a folder went: whether each step was answered as its row says, or why it didn't
-/// open.
-pub type Went = Result<bool, BufferFault>;
-
-/// Opens the buffer in this folder, and takes it through the steps up to the first that is answered
-/// otherwise than its row says.
-pub fn play<A: Allocator + Copy, D: Dir>(
+/// The buffer in this folder behind these steps, none of which is refused.
+pub fn played<A: Allocator + Copy, D: Dir + Drop>(
     alloc: A,
     dir: D,
-    limits: Limits,
-    rows: &[Row],
-) -> (Went, D) {
-    match open(alloc, dir, limits, RENEWED_PAST_IN_MEMORY) {
-        Ok(mut buffer) => {
-            let are_answered = are_answered(alloc, &mut buffer, rows);
-            (Ok(are_answered), buffer.into_dir())
-        }
-        Err((fault, dir)) => (Err(fault), dir),
+    steps: &[Act],
+) -> Option<Buffer<D, A>> {
+    let Ok(mut buffer) = open(alloc, dir, RENEWED_PAST_IN_MEMORY) else {
+        return None;
+    };
+    if are_taken(alloc, &mut buffer, steps) {
+        return Some(buffer);
     }
-}
-
-/// An opening of a buffer, its steps, and the stop behind them.
-pub struct Sitting {
-    pub calls: Failing,
-    pub rows: &'static [Row],
-    pub keep: Keep,
-}
-
-/// Whether the buffer in the folder goes so, and the folder after the stop.
-pub fn sit<D: Stopping>(alloc: Global, dir: D, limits: Limits, sitting: &Sitting) -> (bool, D) {
-    let device = dir.on_device(sitting.calls);
-    let (went, device) = play(alloc, device, limits, sitting.rows);
-    (
-        went == Ok(true),
-        D::off_device(device).stopped(sitting.keep),
-    )
-}
-
-/// How a buffer with these limits goes, in a new folder that each sitting leaves to the next.
-pub struct Course {
-    pub limits: Limits,
-    pub sittings: &'static [Sitting],
-}
-
-// Whether a buffer in this folder goes so.
-fn goes<D: Stopping>(alloc: Global, dir: D, course: &Course) -> bool {
-    let mut dir = dir;
-    for sitting in course.sittings {
-        let (goes, left) = sit(alloc, dir, course.limits, sitting);
-        dir = left;
-        if !goes {
-            return false;
-        }
-    }
-    true
-}
-
-/// Whether buffers go through each of these courses.
-pub fn go_through<D: Stopping>(alloc: Global, courses: &[Course]) -> bool {
-    for course in courses {
-        if !goes(alloc, D::made(alloc), course) {
-            return false;
-        }
-    }
-    true
+    None
 }

@@ -1,88 +1,37 @@
 //! Shared buffers for the tests, and deliveries to them.
 
-ghost use Rattle.std.specs.Prelude.{◌≡◌, IfSome};
-ghost use Rattle.event_modes.specs.Reading.{meaning};
-
-use crate::script::{WIDE, entries, open};
-use ack_receipt::{
-    AuditError, Basis, BookFault, Closed, Delivery, Leaf, Numbers, Pending, Receipt, SharedBuffer,
-    Stub, Takes,
-};
-use buffer_state::Limits;
-use buffer_store::{Buffer, BufferFault, RENEWED_PAST_IN_MEMORY};
+use crate::script::{entries, open};
+use ack_receipt::{Basis, Delivery, Leaf, Numbers, Pending, Receipt, SharedBuffer, Stub, Takes};
+use buffer_store::BufferFault;
 use disk_files::Dir;
 use event_modes::Message;
-use std::alloc::{Allocator, Global};
+use std::alloc::Allocator;
 use std::sync::Wait;
 
-pub type Shelf<D> = SharedBuffer<D, Global>;
-
+/// The name of a shared buffer.
 pub const LEAF: Leaf = Leaf {
     relay: 1,
     buffer: 0,
 };
 
-// A time and an empty record.
-pub const ENTRY: &[u8] = b"\x92\x01\x80";
-
-// The buffer in this folder, whose journal is to be renewed past so many bytes.
-fn opened<A: Allocator + Copy, D: Dir + Drop>(
+/// A shared buffer in this folder, whose journal is renewed wherever it is twice as long as what it
+/// keeps. Its chunks go once they are written, or are dropped.
+pub fn eager_in<A: Allocator + Copy, D: Dir + Drop>(
     alloc: A,
     dir: D,
-    limits: Limits,
-    renewed_past: u64,
-) -> Option<Buffer<D, A>> {
-    match open(alloc, dir, limits, renewed_past) {
-        Ok(buffer) => Some(buffer),
+) -> Option<SharedBuffer<D, A>> {
+    let takes = Takes {
+        basis: Basis::Written,
+        expires: false,
+        drops: true,
+    };
+    match open(alloc, dir, 0) {
+        Ok(buffer) => Some(SharedBuffer::new(alloc, buffer, LEAF, takes)),
         Err((_fault, _dir)) => None,
     }
 }
 
-// The buffer in this folder.
-pub fn buffer_in<A: Allocator + Copy, D: Dir + Drop>(
-    alloc: A,
-    dir: D,
-    limits: Limits,
-) -> Option<Buffer<D, A>> {
-    opened(alloc, dir, limits, RENEWED_PAST_IN_MEMORY)
-}
-
-// What lets its chunks go: this. They may be dropped too.
-fn takes<A: Allocator>(basis: Basis<A>) -> Takes<A> {
-    Takes {
-        basis,
-        expires: false,
-        drops: true,
-    }
-}
-
-// The same under this name, shared; its chunks go by acknowledgements, and may be dropped.
-pub fn shelf_in<A: Allocator + Copy, D: Dir + Drop>(
-    alloc: A,
-    dir: D,
-    leaf: Leaf,
-    limits: Limits,
-) -> Option<SharedBuffer<D, A>> {
-    match buffer_in(alloc, dir, limits) {
-        Some(buffer) => Some(SharedBuffer::new(alloc, buffer, leaf, takes(Basis::Acknowledged))),
-        None => None,
-    }
-}
-
-// Such a buffer in this folder, whose journal is renewed wherever it is twice as long as what it
-// keeps, and whose chunks go by this.
-pub fn eager_in<A: Allocator + Copy, D: Dir + Drop>(
-    alloc: A,
-    dir: D,
-    basis: Basis<A>,
-) -> Option<SharedBuffer<D, A>> {
-    match opened(alloc, dir, WIDE, 0) {
-        Some(buffer) => Some(SharedBuffer::new(alloc, buffer, LEAF, takes(basis))),
-        None => None,
-    }
-}
-
-// A message of this tag, with so many entries, which asks for an answer.
+/// A message of this tag, with so many entries, which asks for an answer.
 pub fn message<A: Allocator + Copy>(alloc: A, tag: u8, count: usize) -> Option<Message<A>> {
     let (Ok(tag), Ok(ack)) = (
         Vec::from_slice(alloc, &[tag]),
@@ -100,16 +49,13 @@ pub fn message<A: Allocator + Copy>(alloc: A, tag: u8, count: usize) -> Option<M
     }
 }
 
-// The next delivery of a message.
-pub fn begun_of<A: Allocator + Copy>(
+// The next delivery of this message to the buffer.
+fn begun_of<A: Allocator + Copy>(
     alloc: A,
     numbers: &mut Numbers,
     message: Message<A>,
-    leaves: &[Leaf],
-) -> Option<Delivery<A>>
-    ensures { IfSome result (λ delivery. delivery.message ≡ meaning message) }
-{
-    let (Some(number), Ok(leaves)) = (numbers.draw(), Vec::from_slice(alloc, leaves)) else {
+) -> Option<Delivery<A>> {
+    let (Some(number), Ok(leaves)) = (numbers.draw(), Vec::from_slice(alloc, &[LEAF])) else {
         return None;
     };
     match Delivery::begin(alloc, number, message, leaves) {
@@ -118,24 +64,20 @@ pub fn begun_of<A: Allocator + Copy>(
     }
 }
 
-// The next delivery of a message of this tag, with so many entries, to one buffer.
+/// The next delivery of a message of this tag, with so many entries.
 pub fn begun<A: Allocator + Copy>(
     alloc: A,
     numbers: &mut Numbers,
-    leaf: Leaf,
     tag: u8,
     count: usize,
 ) -> Option<Delivery<A>> {
     match message(alloc, tag, count) {
-        Some(message) => begun_of(alloc, numbers, message, &[leaf]),
+        Some(message) => begun_of(alloc, numbers, message),
         None => None,
     }
 }
 
-// What is left of a receipt that its delivery didn't take, and why not.
-pub type Refused = (BookFault, Stub<Global>);
-
-// The receipt of a delivery that is appended; one of no entries isn't.
+/// The receipt of a delivery that is appended; one of no entries isn't.
 pub fn receipt_of<R: Wait, A: Allocator + Copy, D: Dir>(
     rt: &R,
     shelf: &SharedBuffer<D, A>,
@@ -147,7 +89,7 @@ pub fn receipt_of<R: Wait, A: Allocator + Copy, D: Dir>(
     shelf.append(rt, delivery)
 }
 
-// The same without a sync.
+/// The same without a sync.
 pub fn pending_of<R: Wait, A: Allocator + Copy, D: Dir>(
     rt: &R,
     shelf: &SharedBuffer<D, A>,
@@ -159,24 +101,7 @@ pub fn pending_of<R: Wait, A: Allocator + Copy, D: Dir>(
     shelf.append_pending(rt, delivery)
 }
 
-// Appends a delivery where it can be, and adds the receipt.
-pub fn put<R: Wait, D: Dir>(
-    rt: &R,
-    shelf: &Shelf<D>,
-    delivery: Delivery<Global>,
-) -> (Delivery<Global>, Option<Refused>)
-    ensures { result.0.message ≡ delivery.message }
-{
-    let Ok(receipt) = receipt_of(rt, shelf, &delivery) else {
-        return (delivery, None);
-    };
-    match delivery.add(receipt) {
-        Ok(delivery) => (delivery, None),
-        Err((fault, delivery, receipt)) => (delivery, Some((fault, receipt.spend()))),
-    }
-}
-
-// Ends what waits.
+/// Ends what waits.
 pub fn give_up_all<R: Wait, A: Allocator + Copy, D: Dir>(
     rt: &R,
     shelf: &SharedBuffer<D, A>,
@@ -189,7 +114,7 @@ pub fn give_up_all<R: Wait, A: Allocator + Copy, D: Dir>(
     rest.destroy_empty();
 }
 
-// Ends receipts, of which stubs are left, and says the sum of their chunks' serials.
+/// Ends receipts, of which stubs are left, and says the sum of their chunks' serials.
 pub fn spend_all<A: Allocator + Copy>(
     receipts: Vec<Receipt<A>, A>,
     stubs: &mut Vec<Stub<A>, A>,
@@ -202,57 +127,4 @@ pub fn spend_all<A: Allocator + Copy>(
     }
     rest.destroy_empty();
     sum
-}
-
-// Queues the chunk of this serial.
-pub fn enqueue<R: Wait, D: Dir>(rt: &R, shelf: &Shelf<D>, serial: u64) -> bool {
-    shelf.enqueue(rt, serial).is_ok()
-}
-
-// Whether there is a chunk of this serial.
-pub fn is_live<R: Wait, D: Dir>(rt: &R, shelf: &Shelf<D>, serial: u64) -> bool {
-    shelf.is_live(rt, serial)
-}
-
-// What dropping the oldest chunk is answered by.
-pub fn dropped<R: Wait, D: Dir>(rt: &R, shelf: &Shelf<D>) -> Result<u64, BufferFault> {
-    shelf.drop_oldest(rt)
-}
-
-// What is left of a delivery that is stored once.
-pub fn stored<R: Wait, D: Dir>(
-    alloc: Global,
-    rt: &R,
-    shelf: &Shelf<D>,
-    numbers: &mut Numbers,
-) -> Option<Stub<Global>> {
-    match begun(alloc, numbers, shelf.leaf(), b'a', 1) {
-        Some(delivery) => Some(put(rt, shelf, delivery).0.abandon()),
-        None => None,
-    }
-}
-
-// Whether an audit of this closed buffer finds this fault, or none.
-fn finds_in<D: Dir + Drop>(
-    alloc: Global,
-    closed: &Closed<D, Global>,
-    stubs: &[Stub<Global>],
-    fault: Option<BookFault>,
-) -> bool {
-    match closed.audit(alloc, stubs) {
-        Ok(()) => fault.is_none(),
-        Err(AuditError::Fault(found)) => fault == Some(found),
-        Err(AuditError::Memory) => false,
-    }
-}
-
-// The same of a shared buffer, which is closed.
-pub fn finds<D: Dir + Drop>(
-    alloc: Global,
-    shelf: Shelf<D>,
-    stubs: &[Stub<Global>],
-    fault: Option<BookFault>,
-) -> bool {
-    let closed = shelf.close();
-    finds_in(alloc, &closed, stubs, fault)
 }

@@ -1,25 +1,23 @@
 //! What a buffer shows, and answers.
 
 use crate::refusals::told::Told;
-use crate::script::Answer;
 use buffer_state::{ChunkFacts, Stage};
 use buffer_store::{Buffer, BufferFault};
 use disk_files::Dir;
 use std::alloc::{AllocError, Allocator};
 
-/// Tells an answer. The error is want of memory.
-pub fn tell_answer(answer: Answer, told: &mut Told) -> Result<(), AllocError> {
+/// Tells an answer. The error is want of memory; another fault is told.
+pub fn tell_answer(answer: Result<u64, BufferFault>, told: &mut Told) -> Result<(), AllocError> {
     match answer {
-        Answer::Refused(BufferFault::Memory) => return Err(AllocError),
-        Answer::Refused(_) => told.number(77_777),
-        Answer::Serial(serial) => told.number(serial),
-        Answer::Entries(count) => told.number(count as u64),
-        _ => told.number(66_666),
+        Ok(number) => told.number(number),
+        Err(BufferFault::Memory) => return Err(AllocError),
+        Err(_) => told.number(77_777),
     }
     Ok(())
 }
 
-fn tell_facts(facts: &ChunkFacts<'_>, told: &mut Told) {
+/// Tells what is shown of a chunk.
+pub fn tell_facts(facts: &ChunkFacts<'_>, told: &mut Told) {
     told.number(facts.serial);
     told.bytes(facts.tag);
     told.number(facts.count as u64);
@@ -34,11 +32,17 @@ fn tell_facts(facts: &ChunkFacts<'_>, told: &mut Told) {
 // Fewer serials than this are given.
 const SERIALS: u64 = 10;
 
-fn tell_bodies<A: Allocator + Copy, D: Dir>(buffer: &mut Buffer<D, A>, told: &mut Told) {
-    for serial in 0..SERIALS {
-        if let Ok(body) = buffer.body(serial) {
-            told.bytes(body.as_bytes());
-        }
+// Tells a chunk and its entries, if there is one of this serial.
+fn tell_chunk<A: Allocator + Copy, D: Dir>(
+    buffer: &mut Buffer<D, A>,
+    serial: u64,
+    told: &mut Told,
+) {
+    if let Some(facts) = buffer.chunks().facts(serial) {
+        tell_facts(&facts, told);
+    }
+    if let Ok(body) = buffer.body(serial) {
+        told.bytes(body.as_bytes());
     }
 }
 
@@ -49,10 +53,9 @@ pub fn tell_buffer<A: Allocator + Copy, D: Dir>(buffer: &mut Buffer<D, A>, told:
     told.number(chunks.next_serial());
     told.number(chunks.total().min(99_999) as u64);
     told.number(chunks.first().unwrap_or(u64::MAX));
-    for facts in chunks.iter() {
-        tell_facts(&facts, told);
-    }
     told.number(u64::from(buffer.has_failed()));
     told.number(u64::from(buffer.has_staged()));
-    tell_bodies(buffer, told);
+    for serial in 0..SERIALS {
+        tell_chunk(buffer, serial, told);
+    }
 }

@@ -1,17 +1,16 @@
 //! Each call of a script of a buffer, and an opening behind each.
 
 use crate::devices::NewDir;
+use crate::parts::{InFolder, Part, in_memory};
 use crate::refusals::acts::{tell_answer, tell_buffer};
-use crate::refusals::files::tell_left;
-use crate::refusals::parts::{Part, in_memory};
+use crate::refusals::opening::{Call, Opened, Site};
 use crate::refusals::told::Told;
-use crate::refusals::trial::{Refuses, Trial, requests_of};
-use crate::script::{Act, WIDE, are_taken, count_of, entries, open, take};
+use crate::refusals::trial::{Refuses, requests_of};
+use crate::script::{Act, count_of, open, played, take};
 use buffer_store::{Buffer, BufferFault, RENEWED_PAST_IN_MEMORY};
 use disk_files::Dir;
 use event_modes::Entries;
 use std::alloc::{AllocError, Allocator};
-use std::mem::replace;
 use std::process::Abort;
 
 // Chunks of which one grows are queued, claimed, given back, purged and dropped. The journal is
@@ -62,137 +61,32 @@ fn act_at(place: usize) -> Act {
     }
 }
 
-// The buffer in this folder behind the calls before this place of the script.
-fn played_in<A: Allocator + Copy, D: Dir + Drop>(
-    heap: A,
-    dir: D,
-    place: usize,
-) -> Option<Buffer<D, A>> {
-    let Ok(mut buffer) = open(heap, dir, WIDE, RENEWED_PAST_IN_MEMORY) else {
-        return None;
-    };
-    if are_taken(
-        heap,
-        &mut buffer,
-        SCRIPT.split_at(place.min(SCRIPT.len())).0,
-    ) {
-        return Some(buffer);
-    }
-    None
-}
-
-// What is tried behind the calls before a place of the script: the call there, or an opening of the
-// folder that they leave.
-#[derive(Clone, Copy)]
-enum Call {
-    Next,
-    Open,
-}
-
-// A folder, or the buffer that was opened in it.
-#[derive(Drop)]
-enum Found<A: Allocator, D: Dir> {
-    Folder(D),
-    Buffer(Buffer<D, A>),
-    Nothing,
-}
-
-// A folder or a buffer, the call at a place of the script, and the entries that it appends.
-struct Site<A: Allocator, D: Dir> {
-    heap: A,
-    act: Act,
-    some: Entries<A>,
-    found: Found<A, D>,
-}
-
-// What the call is tried on.
-fn found_for<A: Allocator + Copy, D: Dir>(buffer: Buffer<D, A>, call: Call) -> Found<A, D> {
-    match call {
-        Call::Next => Found::Buffer(buffer),
-        Call::Open => Found::Folder(buffer.into_dir()),
-    }
-}
-
-// Opens the folder. What comes of it, and its answer; another fault than want of memory is told.
-fn opened<A: Allocator + Copy, D: Dir>(
-    heap: A,
-    dir: D,
-    told: &mut Told,
-) -> (Found<A, D>, Result<(), AllocError>) {
-    match open(heap, dir, WIDE, RENEWED_PAST_IN_MEMORY) {
-        Ok(buffer) => (Found::Buffer(buffer), Ok(())),
-        Err((BufferFault::Memory, dir)) => (Found::Folder(dir), Err(AllocError)),
-        Err((_, dir)) => {
-            told.number(77_777);
-            (Found::Folder(dir), Ok(()))
-        }
-    }
-}
-
-// Makes the call, or opens the folder. What there is then, and the answer.
-fn tried<A: Allocator + Copy, D: Dir>(
-    heap: A,
-    found: Found<A, D>,
-    act: Act,
-    some: &Entries<A>,
-    told: &mut Told,
-) -> (Found<A, D>, Result<(), AllocError>) {
-    match found {
-        Found::Folder(dir) => opened(heap, dir, told),
-        Found::Buffer(mut buffer) => {
-            let answer = tell_answer(take(&mut buffer, some, act), told);
-            (Found::Buffer(buffer), answer)
-        }
-        Found::Nothing => (Found::Nothing, Ok(())),
-    }
-}
-
-fn tell_found<A: Allocator + Copy, D: Dir + Drop>(heap: A, found: Found<A, D>, told: &mut Told) {
-    match found {
-        Found::Folder(dir) => tell_left(heap, dir, told),
-        Found::Buffer(buffer) => tell_left(heap, buffer.into_dir(), told),
-        Found::Nothing => told.number(66_666),
-    }
-}
-
-impl<A: Allocator + Copy, D: NewDir<A>> Trial<A, Call> for Site<A, D> {
-    fn made(heap: A, call: Call, behind: usize) -> Option<Self> {
-        let act = act_at(behind);
-        let Some(some) = entries(heap, count_of(act)) else {
-            return None;
-        };
-        match played_in(heap, D::made(heap), behind) {
-            Some(buffer) => Some(Site {
-                heap,
-                act,
-                some,
-                found: found_for(buffer, call),
-            }),
-            None => None,
+impl<A: Allocator + Copy, D: Dir + Drop> Opened<A, D> for Buffer<D, A> {
+    fn opened(heap: A, dir: D) -> Result<Buffer<D, A>, (bool, D)> {
+        match open(heap, dir, RENEWED_PAST_IN_MEMORY) {
+            Ok(buffer) => Ok(buffer),
+            Err((fault, dir)) => Err((fault != BufferFault::Memory, dir)),
         }
     }
 
-    fn call(&mut self, _call: Call, told: &mut Told) -> Result<(), AllocError> {
-        let found = replace(&mut self.found, Found::Nothing);
-        let (found, answer) = tried(self.heap, found, self.act, &self.some, told);
-        self.found = found;
-        answer
+    fn played(heap: A, dir: D, place: usize) -> Option<Buffer<D, A>> {
+        played(heap, dir, SCRIPT.split_at(place.min(SCRIPT.len())).0)
+    }
+
+    fn count_at(place: usize) -> usize {
+        count_of(act_at(place))
+    }
+
+    fn take(&mut self, place: usize, some: &Entries<A>, told: &mut Told) -> Result<(), AllocError> {
+        tell_answer(take(self, some, act_at(place)), told)
     }
 
     fn show(&mut self, told: &mut Told) {
-        if let Found::Buffer(buffer) = &mut self.found {
-            tell_buffer(buffer, told);
-        }
+        tell_buffer(self, told);
     }
 
-    fn close(self, told: &mut Told) {
-        let Site {
-            heap,
-            act: _,
-            some: _,
-            found,
-        } = self;
-        tell_found(heap, found, told);
+    fn into_dir(self) -> D {
+        Buffer::into_dir(self)
     }
 }
 
@@ -218,7 +112,12 @@ fn requests_of_kind<R: Abort, H: Refuses, D: NewDir<H>>(rt: &R, heap: H, kind: u
     let mut requests = 0u64;
     for (place, act) in SCRIPT.iter().enumerate() {
         if kind_of(*act) == kind {
-            let more = requests_of::<R, H, Call, Site<H, D>>(rt, heap, Call::Next, place);
+            let more = requests_of::<R, H, Call, Site<H, D, Buffer<D, H>>>(
+                rt,
+                heap,
+                Call::Next,
+                place,
+            );
             requests = requests.saturating_add(more);
         }
     }
@@ -237,7 +136,7 @@ pub fn calls_ask<R: Abort, H: Refuses, D: NewDir<H>>(rt: &R, heap: H) -> bool {
 
 #[test]
 fn calls(rt: HostRuntime) {
-    assert!(rt; in_memory(&rt, rt.alloc(), Part::Calls));
+    assert!(rt; in_memory(&rt, rt.alloc(), Part::InFolder(InFolder::Calls)));
 }
 
 // The places of the script before which the folder is opened.
@@ -246,7 +145,7 @@ static PLACES: [usize; 4] = [0, 1, 7, 25];
 /// Whether each opening asks for memory.
 pub fn openings_ask<R: Abort, H: Refuses, D: NewDir<H>>(rt: &R, heap: H) -> bool {
     for place in &PLACES {
-        if requests_of::<R, H, Call, Site<H, D>>(rt, heap, Call::Open, *place) == 0 {
+        if requests_of::<R, H, Call, Site<H, D, Buffer<D, H>>>(rt, heap, Call::Open, *place) == 0 {
             return false;
         }
     }
@@ -255,5 +154,5 @@ pub fn openings_ask<R: Abort, H: Refuses, D: NewDir<H>>(rt: &R, heap: H) -> bool
 
 #[test]
 fn openings(rt: HostRuntime) {
-    assert!(rt; in_memory(&rt, rt.alloc(), Part::Openings));
+    assert!(rt; in_memory(&rt, rt.alloc(), Part::InFolder(InFolder::Openings)));
 }

@@ -1,6 +1,6 @@
 //! Deliveries are begun, and room is made for answers.
 
-use crate::refusals::parts::{Part, in_memory};
+use crate::parts::{Alone, Part, in_memory};
 use crate::refusals::reading::tell_message;
 use crate::refusals::told::Told;
 use crate::refusals::trial::{Refuses, Trial, each_asks, requests_of};
@@ -173,7 +173,7 @@ pub fn deliveries_ask<R: Abort, H: Refuses>(rt: &R, heap: H) -> bool {
 
 #[test]
 fn deliveries(rt: HostRuntime) {
-    assert!(rt; in_memory(&rt, rt.alloc(), Part::Deliveries));
+    assert!(rt; in_memory(&rt, rt.alloc(), Part::Alone(Alone::Deliveries)));
 }
 
 /// Whether room for an answer asks for memory.
@@ -183,5 +183,5 @@ pub fn rooms_ask<R: Abort, H: Refuses>(rt: &R, heap: H) -> bool {
 
 #[test]
 fn rooms(rt: HostRuntime) {
-    assert!(rt; in_memory(&rt, rt.alloc(), Part::Rooms));
+    assert!(rt; in_memory(&rt, rt.alloc(), Part::Alone(Alone::Rooms)));
 }

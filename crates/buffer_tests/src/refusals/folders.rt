@@ -1,8 +1,8 @@
 //! Files are made, opened, given room and listed in a folder in memory, and read whole.
 
 use crate::devices::NewDir;
+use crate::parts::{InFolder, Part, in_memory};
 use crate::refusals::files::tell_left;
-use crate::refusals::parts::{Part, in_memory};
 use crate::refusals::told::Told;
 use crate::refusals::trial::{Refuses, Trial, each_asks, requests_behind};
 use disk_files::{Dir, DirError, FileName, Writing};
@@ -186,5 +186,5 @@ pub fn ask<R: Abort, H: Refuses, D: NewDir<H>>(rt: &R, heap: H) -> bool {
 
 #[test]
 fn calls(rt: HostRuntime) {
-    assert!(rt; in_memory(&rt, rt.alloc(), Part::Folders));
+    assert!(rt; in_memory(&rt, rt.alloc(), Part::InFolder(InFolder::Folders)));
 }

@@ -1,6 +1,6 @@
 //! HELO, PING and PONG are taken and written.
 
-use crate::refusals::parts::{Part, in_memory};
+use crate::parts::{Alone, Part, in_memory};
 use crate::refusals::putting::{LENGTHS, xs};
 use crate::refusals::told::Told;
 use crate::refusals::trial::{Refuses, Trial, each_asks};
@@ -11,37 +11,32 @@ use std::process::Abort;
 // A call of one of two ends that share a key.
 #[derive(Clone, Copy)]
 enum Call {
-    Server,
-    Client,
+    // A server is made, and says its HELO.
     Hello,
+    // One is made, and takes this as a PING.
+    Ping(&'static [u8]),
+    // A client is made.
+    Client,
     // The client takes the server's HELO.
     Helo,
-    // The server takes the client's PING.
-    Ping,
-    // The server takes this in place of a PING.
-    NoPing(&'static [u8]),
 }
 
-static CALLS: [Call; 7] = [
-    Call::Server,
-    Call::Client,
+// What a server with sixteen bytes of 1 as its nonce says.
+const HELO: &[u8] =
+    b"\x92\xa4HELO\x83\xa5nonce\xc4\x10\x01\x01\x01\x01\x01\x01\x01\x01\x01\x01\x01\x01\x01\x01\x01\x01\xa4auth\xa0\xa9keepalive\xc3";
+
+// What a client with sixteen bytes of 2 as its salt says then.
+const PING: &[u8] =
+    b"\x96\xa4PING\xa6client\xc4\x10\x02\x02\x02\x02\x02\x02\x02\x02\x02\x02\x02\x02\x02\x02\x02\x02\xd9\x803e35f87e33f161d358b13dd6d442278c7ada7a88832b96436d3c749cc66ddf4b4bf88aec0efe56e005c82d67a38c21613c280282d06e97bbc3e58783b0574512\xa0\xa0";
+
+static CALLS: [Call; 6] = [
     Call::Hello,
+    Call::Ping(PING),
+    Call::Ping(b"\xc0"),
+    Call::Ping(b"\x96\xa4PING\xa1h\xa1s\xa1d\xa0\xa0"),
+    Call::Client,
     Call::Helo,
-    Call::Ping,
-    Call::NoPing(b"\xc0"),
-    Call::NoPing(b"\x96\xa4PING\xa1h\xa1s\xa1d\xa0\xa0"),
 ];
-
-// Both ends, what the one wrote before, and what the call writes.
-#[derive(Drop)]
-struct Ends<A: Allocator> {
-    heap: A,
-    server: Server<A>,
-    client: Client<A>,
-    helo: Vec<u8, A>,
-    ping: Vec<u8, A>,
-    out: Vec<u8, A>,
-}
 
 fn new_server<A: Allocator + Copy>(heap: A) -> Result<Server<A>, AllocError> {
     Server::new(heap, b"server", b"key", [1; 16])
@@ -51,23 +46,14 @@ fn new_client<A: Allocator + Copy>(heap: A) -> Result<Client<A>, AllocError> {
     Client::new(heap, b"client", b"key", [2; 16])
 }
 
-fn take_helo<A: Allocator + Copy>(
-    client: &mut Client<A>,
-    helo: &[u8],
-    out: &mut Vec<u8, A>,
-    told: &mut Told,
-) -> Result<(), AllocError> {
-    match client.helo(helo, out) {
-        Ok(()) => Ok(()),
-        Err(HeloError::Memory) => Err(AllocError),
-        Err(HeloError::Fault(_)) => {
-            told.number(1);
-            Ok(())
-        }
+fn say_helo<A: Allocator + Copy>(heap: A, out: &mut Vec<u8, A>) -> Result<(), AllocError> {
+    match new_server(heap) {
+        Ok(server) => server.hello(out),
+        Err(AllocError) => Err(AllocError),
     }
 }
 
-fn take_ping<A: Allocator + Copy>(
+fn answer_ping<A: Allocator + Copy>(
     server: &Server<A>,
     item: &[u8],
     out: &mut Vec<u8, A>,
@@ -81,52 +67,36 @@ fn take_ping<A: Allocator + Copy>(
     Ok(())
 }
 
-// Both ends, which wrote nothing before; what the call writes is to stand behind these bytes.
-fn new_ends<A: Allocator + Copy>(heap: A, out: Vec<u8, A>) -> Option<Ends<A>> {
-    match (new_server(heap), new_client(heap)) {
-        (Ok(server), Ok(client)) => Some(Ends {
-            heap,
-            server,
-            client,
-            helo: Vec::new(heap),
-            ping: Vec::new(heap),
-            out,
-        }),
-        _ => None,
-    }
-}
-
-// The server says its HELO, and another client the PING that answers it.
-fn begin<A: Allocator + Copy>(ends: &mut Ends<A>) -> Result<(), AllocError> {
-    ends.server.hello(&mut ends.helo)?;
-    let mut other = new_client(ends.heap)?;
-    let _ = other.helo(&ends.helo, &mut ends.ping);
-    Ok(())
-}
-
-fn renew_server<A: Allocator + Copy>(ends: &mut Ends<A>) -> Result<(), AllocError> {
-    ends.server = new_server(ends.heap)?;
-    Ok(())
-}
-
-fn renew_client<A: Allocator + Copy>(ends: &mut Ends<A>) -> Result<(), AllocError> {
-    ends.client = new_client(ends.heap)?;
-    Ok(())
-}
-
-fn take<A: Allocator + Copy>(
-    ends: &mut Ends<A>,
-    call: Call,
+fn take_ping<A: Allocator + Copy>(
+    heap: A,
+    item: &[u8],
+    out: &mut Vec<u8, A>,
     told: &mut Told,
 ) -> Result<(), AllocError> {
-    match call {
-        Call::Server => renew_server(ends),
-        Call::Client => renew_client(ends),
-        Call::Hello => ends.server.hello(&mut ends.out),
-        Call::Helo => take_helo(&mut ends.client, &ends.helo, &mut ends.out, told),
-        Call::Ping => take_ping(&ends.server, &ends.ping, &mut ends.out, told),
-        Call::NoPing(item) => take_ping(&ends.server, item, &mut ends.out, told),
+    match new_server(heap) {
+        Ok(server) => answer_ping(&server, item, out, told),
+        Err(AllocError) => Err(AllocError),
     }
+}
+
+fn take_helo<A: Allocator + Copy>(
+    client: &mut Client<A>,
+    out: &mut Vec<u8, A>,
+    told: &mut Told,
+) -> Result<(), AllocError> {
+    match client.helo(HELO, out) {
+        Ok(()) => {}
+        Err(HeloError::Memory) => return Err(AllocError),
+        Err(HeloError::Fault(_)) => told.number(1),
+    }
+    Ok(())
+}
+
+// A client, and what the call writes.
+struct Ends<A: Allocator> {
+    heap: A,
+    client: Client<A>,
+    out: Vec<u8, A>,
 }
 
 impl<A: Allocator + Copy> Trial<A, Call> for Ends<A> {
@@ -135,30 +105,43 @@ impl<A: Allocator + Copy> Trial<A, Call> for Ends<A> {
         let Some(out) = xs(heap, behind) else {
             return None;
         };
-        let Some(mut ends) = new_ends(heap, out) else {
-            return None;
-        };
-        match begin(&mut ends) {
-            Ok(()) => Some(ends),
+        match new_client(heap) {
+            Ok(client) => Some(Ends { heap, client, out }),
             Err(AllocError) => None,
         }
     }
 
     fn call(&mut self, call: Call, told: &mut Told) -> Result<(), AllocError> {
-        take(self, call, told)
+        match call {
+            Call::Hello => say_helo(self.heap, &mut self.out),
+            Call::Ping(item) => take_ping(self.heap, item, &mut self.out, told),
+            Call::Client => is_made(new_client(self.heap)),
+            Call::Helo => take_helo(&mut self.client, &mut self.out, told),
+        }
     }
 
     fn show(&mut self, told: &mut Told) {
         told.bytes(&self.out);
     }
 
-    // Both ends go on.
+    // The client goes on.
     fn close(self, told: &mut Told) {
-        let mut ends = self;
-        for call in [Call::Hello, Call::Helo, Call::Ping] {
-            let _ = take(&mut ends, call, told);
-        }
-        told.bytes(&ends.out);
+        let Ends {
+            heap: _,
+            client,
+            out,
+        } = self;
+        let mut client = client;
+        let mut out = out;
+        let _ = take_helo(&mut client, &mut out, told);
+        told.bytes(&out);
+    }
+}
+
+fn is_made<A: Allocator>(client: Result<Client<A>, AllocError>) -> Result<(), AllocError> {
+    match client {
+        Ok(_) => Ok(()),
+        Err(AllocError) => Err(AllocError),
     }
 }
 
@@ -169,5 +152,5 @@ pub fn ask<R: Abort, H: Refuses>(rt: &R, heap: H) -> bool {
 
 #[test]
 fn handshakes(rt: HostRuntime) {
-    assert!(rt; in_memory(&rt, rt.alloc(), Part::Handshakes));
+    assert!(rt; in_memory(&rt, rt.alloc(), Part::Alone(Alone::Handshakes)));
 }

@@ -1,9 +1,9 @@
 //! Journals are replayed by pieces.
 
-use crate::refusals::parts::{Part, in_memory};
+use crate::parts::{Alone, Part, in_memory};
 use crate::refusals::told::Told;
 use crate::refusals::trial::{Refuses, Trial, requests_behind};
-use buffer_state::{Chunks, Stage};
+use buffer_state::{Chunk, Chunks, Stage};
 use chunk_journal::{Outline, Outlined, ReplayError};
 use std::alloc::{AllocError, Allocator};
 use std::mem::replace;
@@ -14,14 +14,23 @@ use std::process::Abort;
 pub static JOURNAL: &[u8] =
     b"\0\0\0\x13\x02\0\0\0\0\0\0\0\x00\0\x01a\0\0\0\x01\x92\x01\x80\0\0\0\x09\x03\0\0\0\0\0\0\0\0\0\0\0\x13\x02\0\0\0\0\0\0\0\x03\0\x01b\0\0\0\x01\x92\x02\x80\0\0\0\x13\x02\0\0\0\0\0\0\0\x05\0\x01c\0\0\0\x01\x92\x03\x80\0\0\0\x09\x01\0\0\0\0\0\0\0\x09\0\0\0\x13\x02\0\0\0\0\0\0\0\x09\0\x01d\0\0\0\x01\x92\x04\x80\0\0\0\x13\x02\0\0\0\0\0\0\0\x0a\0\x01e\0\0\0\x01\x92\x05\x80\0\0\0\x13\x02\0\0\0\0\0\0\0\x0a\0\x01e\0\0\0\x01\x92\x06\x80\0\0\0\x09\x03\0\0\0\0\0\0\0\x09\0\0\0\x09\x04\0\0\0\0\0\0\0\0";
 
+// Fewer serials than this are there.
+const SERIALS: u64 = 12;
+
+fn tell_chunk<A: Allocator + Copy>(chunk: &Chunk<A>, told: &mut Told) {
+    told.bytes(chunk.tag());
+    told.number(chunk.count() as u64);
+    told.number(u64::from(chunk.stage() == Stage::Queued));
+}
+
 /// Tells chunks, and the next serial.
 pub fn tell_chunks<A: Allocator + Copy>(chunks: &Chunks<A>, told: &mut Told) {
     told.number(chunks.next());
-    for (serial, chunk) in chunks.live() {
-        told.number(*serial);
-        told.bytes(chunk.tag());
-        told.number(chunk.count() as u64);
-        told.number(u64::from(chunk.stage() == Stage::Queued));
+    for serial in 0..SERIALS {
+        if let Some(chunk) = chunks.chunk(serial) {
+            told.number(serial);
+            tell_chunk(chunk, told);
+        }
     }
 }
 
@@ -112,7 +121,7 @@ fn finished<A: Allocator + Copy>(
 fn tell_outlined<A: Allocator + Copy>(outlined: &Outlined<A>, told: &mut Told) {
     tell_chunks(&outlined.chunks, told);
     told.number(outlined.used);
-    for serial in 0..12 {
+    for serial in 0..SERIALS {
         for extent in outlined.places.at(serial) {
             told.number(extent.at());
             told.number(extent.length());
@@ -201,5 +210,5 @@ pub fn ask<R: Abort, H: Refuses>(rt: &R, heap: H) -> bool {
 
 #[test]
 fn outlines(rt: HostRuntime) {
-    assert!(rt; in_memory(&rt, rt.alloc(), Part::Outlines));
+    assert!(rt; in_memory(&rt, rt.alloc(), Part::Alone(Alone::Outlines)));
 }

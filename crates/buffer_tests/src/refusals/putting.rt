@@ -1,6 +1,6 @@
 //! Bytes are written behind others, of which there are so many that each growth comes once.
 
-use crate::refusals::parts::{Part, in_memory};
+use crate::parts::{Alone, Part, in_memory};
 use crate::refusals::told::Told;
 use crate::refusals::trial::{Refuses, Trial, each_asks, requests_behind};
 use crate::script::entries;
@@ -174,7 +174,7 @@ pub fn each_put_asks<R: Abort, H: Refuses>(rt: &R, heap: H) -> bool {
 
 #[test]
 fn spellings(rt: HostRuntime) {
-    assert!(rt; in_memory(&rt, rt.alloc(), Part::Spellings));
+    assert!(rt; in_memory(&rt, rt.alloc(), Part::Alone(Alone::Spellings)));
 }
 
 /// Whether entries that are appended ask for memory.
@@ -184,5 +184,5 @@ pub fn entries_ask<R: Abort, H: Refuses>(rt: &R, heap: H) -> bool {
 
 #[test]
 fn appended_entries(rt: HostRuntime) {
-    assert!(rt; in_memory(&rt, rt.alloc(), Part::Entries));
+    assert!(rt; in_memory(&rt, rt.alloc(), Part::Alone(Alone::Entries)));
 }

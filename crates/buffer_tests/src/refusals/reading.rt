@@ -1,7 +1,7 @@
 //! Messages are read, journals are replayed, and the items of a sink's file are counted.
 
+use crate::parts::{Alone, Part, in_memory};
 use crate::refusals::journals::{JOURNAL, fault_of, tell_chunks};
-use crate::refusals::parts::{Part, in_memory};
 use crate::refusals::told::Told;
 use crate::refusals::trial::{Refuses, Trial, each_asks, requests_behind};
 use chunk_journal::replay;
@@ -210,7 +210,7 @@ pub fn bytes_ask<R: Abort, H: Refuses>(rt: &R, heap: H) -> bool {
 
 #[test]
 fn bytes_that_are_read(rt: HostRuntime) {
-    assert!(rt; in_memory(&rt, rt.alloc(), Part::Bytes));
+    assert!(rt; in_memory(&rt, rt.alloc(), Part::Alone(Alone::Bytes)));
 }
 
 static COUNTS: [usize; 13] = [0, 1, 8, 9, 15, 16, 17, 31, 32, 33, 60, 64, 65];
@@ -226,5 +226,5 @@ pub fn streams_ask<R: Abort, H: Refuses>(rt: &R, heap: H) -> bool {
 
 #[test]
 fn streams(rt: HostRuntime) {
-    assert!(rt; in_memory(&rt, rt.alloc(), Part::Streams));
+    assert!(rt; in_memory(&rt, rt.alloc(), Part::Alone(Alone::Streams)));
 }

@@ -1,14 +1,17 @@
 //! Each call of a script of a shared buffer, and audits of its book.
 
 use crate::devices::NewDir;
-use crate::refusals::parts::{Part, in_memory};
+use crate::parts::{InFolder, Part, in_memory};
+use crate::refusals::acts::tell_answer;
 use crate::refusals::shop::{
-    Books, Hands, append, append_pending, audit, body, claim, end, purge, redeem, tell, tell_books,
+    Books, Hands, append, append_pending, audit, body, claim, end, purge, redeem, settle, tell,
+    tell_books,
 };
 use crate::refusals::told::Told;
 use crate::refusals::trial::{Refuses, Trial, requests_of};
+use crate::script::done;
 use crate::shelves::eager_in;
-use ack_receipt::{Basis, SharedBuffer};
+use ack_receipt::SharedBuffer;
 use buffer_store::BufferFault;
 use disk_files::Dir;
 use std::alloc::{AllocError, Allocator};
@@ -27,10 +30,12 @@ enum Act {
     Purge,
     DropOldest,
     Renew,
+    Settle,
 }
 
-// Chunks grow and wait for receipts; they are queued, claimed, read, purged and dropped.
-static SCRIPT: [Act; 37] = [
+// Chunks grow and wait for receipts; they are queued, claimed, read, purged and dropped. In the end
+// a line of the book is closed.
+static SCRIPT: [Act; 38] = [
     Act::Append(b'a'),
     Act::Append(b'a'),
     Act::Append(b'b'),
@@ -68,14 +73,8 @@ static SCRIPT: [Act; 37] = [
     Act::Enqueue(5),
     Act::Renew,
     Act::DropOldest,
+    Act::Settle,
 ];
-
-fn done(answer: Result<(), BufferFault>) -> Result<u64, BufferFault> {
-    match answer {
-        Ok(()) => Ok(0),
-        Err(fault) => Err(fault),
-    }
-}
 
 fn take<R: Wait + Abort, A: Allocator + Copy, D: Dir>(
     rt: &R,
@@ -94,6 +93,7 @@ fn take<R: Wait + Abort, A: Allocator + Copy, D: Dir>(
         Act::Purge => purge(rt, shelf, hands),
         Act::DropOldest => shelf.drop_oldest(rt),
         Act::Renew => done(shelf.renew(rt)),
+        Act::Settle => settle(rt, shelf, hands),
     }
 }
 
@@ -145,7 +145,7 @@ fn played<'r, R: Wait + Abort, A: Allocator + Copy, D: NewDir<A>>(
     heap: A,
     place: usize,
 ) -> Option<Trying<'r, R, A, D>> {
-    let Some(shelf) = eager_in(heap, D::made(heap), Basis::Written) else {
+    let Some(shelf) = eager_in(heap, D::made(heap)) else {
         return None;
     };
     let mut hands = Hands::new(heap);
@@ -168,12 +168,7 @@ impl<'r, R: Wait + Abort, A: Allocator + Copy, D: NewDir<A>> Trial<A, &'r R>
     }
 
     fn call(&mut self, rt: &'r R, told: &mut Told) -> Result<(), AllocError> {
-        match take(rt, &self.shelf, &mut self.hands, self.act, told) {
-            Ok(number) => told.number(number),
-            Err(BufferFault::Memory) => return Err(AllocError),
-            Err(_) => told.number(77_777),
-        }
-        Ok(())
+        tell_answer(take(rt, &self.shelf, &mut self.hands, self.act, told), told)
     }
 
     fn show(&mut self, told: &mut Told) {
@@ -191,20 +186,45 @@ impl<'r, R: Wait + Abort, A: Allocator + Copy, D: NewDir<A>> Trial<A, &'r R>
     }
 }
 
+// The books behind the calls before a place, if what is left accounts for them.
+fn whole_at<R: Wait + Abort, A: Allocator + Copy, D: NewDir<A>>(
+    rt: &R,
+    heap: A,
+    place: usize,
+) -> Option<Books<A, D>> {
+    let Some(books) = books_at(rt, heap, place) else {
+        return None;
+    };
+    if audit(&books) == Ok(true) {
+        return Some(books);
+    }
+    tell_books(books, &mut Told::new());
+    None
+}
+
+// The books behind the calls before a place.
+fn books_at<R: Wait + Abort, A: Allocator + Copy, D: NewDir<A>>(
+    rt: &R,
+    heap: A,
+    place: usize,
+) -> Option<Books<A, D>> {
+    match played(rt, heap, place) {
+        Some(
+            Trying {
+                rt: _,
+                act: _,
+                shelf,
+                hands,
+            },
+        ) => Some(end(rt, shelf, hands)),
+        None => None,
+    }
+}
+
 // An audit behind the calls before a place.
 impl<'r, R: Wait + Abort, A: Allocator + Copy, D: NewDir<A>> Trial<A, &'r R> for Books<A, D> {
     fn made(heap: A, rt: &'r R, behind: usize) -> Option<Self> {
-        match played::<R, A, D>(rt, heap, behind) {
-            Some(
-                Trying {
-                    rt: _,
-                    act: _,
-                    shelf,
-                    hands,
-                },
-            ) => Some(end(rt, shelf, hands)),
-            None => None,
-        }
+        whole_at(rt, heap, behind)
     }
 
     fn call(&mut self, _rt: &'r R, told: &mut Told) -> Result<(), AllocError> {
@@ -238,16 +258,23 @@ pub fn calls_ask<R: Wait + Abort, H: Refuses, D: NewDir<H>>(rt: &R, heap: H) -> 
 
 #[test]
 fn calls(rt: HostRuntime) {
-    assert!(rt; in_memory(&rt, rt.alloc(), Part::SharedCalls));
+    assert!(rt; in_memory(&rt, rt.alloc(), Part::InFolder(InFolder::SharedCalls)));
 }
+
+// Places of the script behind which there is an audit; all of it, and a line is closed then.
+static AUDITS: [usize; 3] = [12, 13, 38];
 
 /// Whether audits ask for memory.
 pub fn audits_ask<R: Wait + Abort, H: Refuses, D: NewDir<H>>(rt: &R, heap: H) -> bool {
-    requests_of::<R, H, &R, Books<H, D>>(rt, heap, rt, 12) > 0
-        && requests_of::<R, H, &R, Books<H, D>>(rt, heap, rt, 13) > 0
+    for place in &AUDITS {
+        if requests_of::<R, H, &R, Books<H, D>>(rt, heap, rt, *place) == 0 {
+            return false;
+        }
+    }
+    true
 }
 
 #[test]
 fn audits(rt: HostRuntime) {
-    assert!(rt; in_memory(&rt, rt.alloc(), Part::SharedAudits));
+    assert!(rt; in_memory(&rt, rt.alloc(), Part::InFolder(InFolder::SharedAudits)));
 }

@@ -1,14 +1,14 @@
 //! What is in one's hands beside a shared buffer: what was appended to it, and what was claimed from
 //! it.
 
+use crate::refusals::acts::tell_facts;
 use crate::refusals::files::tell_left;
 use crate::refusals::told::Told;
-use crate::shelves::{LEAF, begun, give_up_all, pending_of, receipt_of, spend_all};
+use crate::shelves::{begun, give_up_all, pending_of, receipt_of, spend_all};
 use ack_receipt::{
     AuditError, Claim, Closed, Delivery, Evidence, Numbers, Pending, PurgeFault, RedeemFault,
     SharedBuffer, Stub,
 };
-use buffer_state::Stage;
 use buffer_store::BufferFault;
 use disk_files::Dir;
 use std::alloc::{AllocError, Allocator};
@@ -26,6 +26,9 @@ pub struct Hands<A: Allocator> {
     claim: Option<Claim<A>>,
     stubs: Vec<Stub<A>, A>,
 }
+
+// Fewer serials than this are given.
+const SERIALS: u64 = 20;
 
 fn give_back<R: Wait + Abort, A: Allocator + Copy, D: Dir>(
     rt: &R,
@@ -86,7 +89,7 @@ impl<A: Allocator + Copy> Hands<A> {
         if self.waiting.reserve(1).is_err() || self.stubs.reserve(8).is_err() {
             return false;
         }
-        let delivery = begun(self.heap, &mut self.numbers, LEAF, tag, count);
+        let delivery = begun(self.heap, &mut self.numbers, tag, count);
         let is_begun = delivery.is_some();
         abandon(replace(&mut self.next, delivery));
         is_begun
@@ -217,6 +220,21 @@ pub fn purge<R: Wait + Abort, A: Allocator + Copy, D: Dir>(
     }
 }
 
+/// Settles what is left of the last delivery, and lets it go.
+pub fn settle<R: Wait, A: Allocator + Copy, D: Dir>(
+    rt: &R,
+    shelf: &SharedBuffer<D, A>,
+    hands: &mut Hands<A>,
+) -> Result<u64, BufferFault> {
+    let Some(stub) = hands.stubs.pop() else {
+        return Err(BufferFault::Gone);
+    };
+    match shelf.settle(rt, &stub) {
+        Ok(()) => Ok(stub.delivery),
+        Err(_) => Err(BufferFault::Gone),
+    }
+}
+
 /// Tells which chunks there are, whether the buffer has failed, and what is in one's hands.
 pub fn tell<R: Wait, A: Allocator + Copy, D: Dir>(
     rt: &R,
@@ -224,7 +242,7 @@ pub fn tell<R: Wait, A: Allocator + Copy, D: Dir>(
     hands: &Hands<A>,
     told: &mut Told,
 ) {
-    for serial in 0..20 {
+    for serial in 0..SERIALS {
         told.number(u64::from(shelf.is_live(rt, serial)));
     }
     told.number(u64::from(shelf.has_failed(rt)));
@@ -265,11 +283,10 @@ pub struct Books<A: Allocator, D: Dir> {
 }
 
 fn tell_chunks<A: Allocator + Copy, D: Dir>(closed: &Closed<D, A>, told: &mut Told) {
-    for facts in closed.chunks().iter() {
-        told.number(facts.serial);
-        told.bytes(facts.tag);
-        told.number(facts.count as u64);
-        told.number(u64::from(facts.stage == Stage::Staged));
+    for serial in 0..SERIALS {
+        if let Some(facts) = closed.chunks().facts(serial) {
+            tell_facts(&facts, told);
+        }
     }
 }
 
