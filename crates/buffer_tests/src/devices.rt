@@ -1,6 +1,6 @@
-//! Folders that are made anew, and devices on which they fail.
+//! Folders that are made anew and stopped, and devices on which they fail.
 
-use disk_files::{Dir, Fuse, MemoryDir};
+use disk_files::{Dir, Fuse, Keep, MemoryDir};
 use std::alloc::Allocator;
 
 /// A folder that can be made anew.
@@ -15,7 +15,7 @@ impl<A: Allocator + Copy> NewDir<A> for MemoryDir<A> {
     }
 }
 
-/// A folder that can lie on a device that fails.
+/// A folder that can be stopped as by a loss of power, and can lie on a device that fails.
 pub trait OnDevice<A: Allocator + Copy>: NewDir<A> {
     /// Such a folder on a device.
     type Device: Dir + Drop;
@@ -25,6 +25,9 @@ pub trait OnDevice<A: Allocator + Copy>: NewDir<A> {
 
     /// The folder that lies on a device.
     fn off_device(device: Self::Device) -> Self;
+
+    /// What a stop leaves, which keeps so much.
+    fn stopped(self, keep: Keep) -> Self;
 }
 
 impl<A: Allocator + Copy> OnDevice<A> for MemoryDir<A> {
@@ -36,5 +39,9 @@ impl<A: Allocator + Copy> OnDevice<A> for MemoryDir<A> {
 
     fn off_device(device: Fuse<MemoryDir<A>>) -> Self {
         device.into_inner()
+    }
+
+    fn stopped(self, keep: Keep) -> Self {
+        self.stop(keep)
     }
 }

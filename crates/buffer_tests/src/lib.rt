@@ -1,5 +1,6 @@
-//! Tests of folders of the system, of an open sink, and of what no clause says of buffers; and each
-//! request for memory of each call below the relay, refused in turn.
+//! Tests of folders of the system, of an open sink, of what a stop leaves of a buffer, and of what
+//! no clause says of buffers; and each request for memory of each call below the relay, refused in
+//! turn.
 #![tactic(auto)]
 
 #[cfg(test)]
@@ -22,3 +23,5 @@ mod script;
 mod sharing;
 #[cfg(test)]
 mod shelves;
+#[cfg(test)]
+mod stops;

@@ -6,7 +6,7 @@ use crate::refusals::trial::{Heap, Refuses};
 use crate::refusals::{
     buffers, deliveries, folders, handshakes, journals, putting, reading, shared, sinks,
 };
-use crate::{records, rotations, sharing};
+use crate::{records, rotations, sharing, stops};
 use disk_files::MemoryDir;
 use refusing_alloc::Refusing;
 use std::alloc::Global;
@@ -22,6 +22,10 @@ pub enum Part {
     Records,
     /// Files of the last number.
     LastNumbers,
+    /// What a stop leaves of a buffer.
+    Stops,
+    /// The generation that an opening takes.
+    Generations,
     /// A drop of a shared buffer, and a renewal.
     Renewal,
     /// The one sync of a list.
@@ -105,6 +109,8 @@ fn is_so<R: Wait + Abort, H: Refuses, D: OnDevice<H>>(rt: &R, heap: H, part: Par
         Part::Recovery => rotations::recover::<H, D>(heap),
         Part::Records => records::are_told::<H, D>(heap),
         Part::LastNumbers => records::are_last::<H, D>(heap),
+        Part::Stops => stops::are_left::<H, D>(heap),
+        Part::Generations => stops::are_written::<H, D>(heap),
         Part::Renewal => sharing::renewal_fails::<R, H, D>(rt, heap),
         Part::OneSync => sharing::take_one_sync::<R, H, D>(rt, heap),
         Part::Alone(alone) => asks::<R, H>(rt, heap, alone),
