@@ -93,8 +93,8 @@ fn are_on_disk(rt: &HostRuntime, rows: &[Row]) -> bool {
     true
 }
 
-/// Whether all is as it should be in these, which are of this path or below it. It is removed before
-/// and then.
+/// Whether all is as it should be in these, which are of this path or below it. It is removed
+/// before and then.
 pub fn on_disk(rt: &HostRuntime, path: &str, rows: &[Row]) -> bool {
     let _ = fs::remove_dir_all(rt, path);
     are_on_disk(rt, rows) && is_removed(rt, path)

@@ -9,8 +9,8 @@ use std::alloc::{AllocError, Allocator};
 use std::mem::replace;
 use std::process::Abort;
 
-/// Three chunks, of which one is queued, a Seal of 9, two chunks more, an entry more, a queueing and
-/// a removal.
+/// Three chunks, of which one is queued, a Seal of 9, two chunks more, an entry more, a queueing
+/// and a removal.
 pub static JOURNAL: &[u8] =
     b"\0\0\0\x13\x02\0\0\0\0\0\0\0\x00\0\x01a\0\0\0\x01\x92\x01\x80\0\0\0\x09\x03\0\0\0\0\0\0\0\0\0\0\0\x13\x02\0\0\0\0\0\0\0\x03\0\x01b\0\0\0\x01\x92\x02\x80\0\0\0\x13\x02\0\0\0\0\0\0\0\x05\0\x01c\0\0\0\x01\x92\x03\x80\0\0\0\x09\x01\0\0\0\0\0\0\0\x09\0\0\0\x13\x02\0\0\0\0\0\0\0\x09\0\x01d\0\0\0\x01\x92\x04\x80\0\0\0\x13\x02\0\0\0\0\0\0\0\x0a\0\x01e\0\0\0\x01\x92\x05\x80\0\0\0\x13\x02\0\0\0\0\0\0\0\x0a\0\x01e\0\0\0\x01\x92\x06\x80\0\0\0\x09\x03\0\0\0\0\0\0\0\x09\0\0\0\x09\x04\0\0\0\0\0\0\0\0";
 

@@ -1,5 +1,5 @@
-//! What is in one's hands beside a shared buffer: what was appended to it, and what was claimed from
-//! it.
+//! What is in one's hands beside a shared buffer: what was appended to it, and what was claimed
+//! from it.
 
 use crate::refusals::acts::tell_facts;
 use crate::refusals::files::tell_left;
