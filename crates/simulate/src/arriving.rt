@@ -1,10 +1,11 @@
 //! The bytes of a message reach a relay piece by piece, and what the relay makes of it is told.
 
-use crate::chunks::{Appended, Chunks};
+use crate::chunks::{Chunks, Delivery, Name, Tally};
+use crate::dice::Dice;
 use crate::judge::Judge;
 use crate::link::Link;
 use crate::machine::Machine;
-use crate::parts::{Parts, Server, Settings, Way};
+use crate::parts::{Client, Parts, Server, Settings, Way};
 use crate::run::{Run, tell_oldest};
 use crate::site::{Refusal, Site};
 use relay_conf::BufferNo;
@@ -12,34 +13,43 @@ use relay_ports::Branches;
 use std::alloc::{AllocError, Global};
 use std::sync::Wait;
 
-impl<P: Parts, M: Machine> Run<P, M> {
+impl<P: Parts> Run<P> {
     /// Some bytes of a connection reach the relay.
-    pub fn reach<R: Wait>(&mut self, rt: &R, at: usize) -> Result<(), AllocError> {
+    pub fn reach<R: Wait, M: Machine>(
+        &mut self,
+        rt: &R,
+        dice: &mut Dice,
+        judge: &mut Judge<M>,
+        at: usize,
+    ) -> Result<(), AllocError> {
         let Some(link) = self.links.get_mut(at) else {
             return Ok(());
         };
         let Some(site) = self.sites.get_mut(link.to) else {
             return Ok(());
         };
-        let len = count_outgoing(link);
-        if len == 0 {
+        let Some(count) = count_reaching(dice, link) else {
             return Ok(());
-        }
-        let some = self.dice.below(len);
-        let count = if self.dice.once_in(2) { len } else { some };
-        if bring(rt, self.alloc, site, link, count, &mut self.judge)? {
+        };
+        if bring(rt, self.alloc, site, link, count, judge)? {
             self.begun.push(at)?;
         }
         Ok(())
     }
 }
 
-// How many bytes of a connection may reach its relay.
-fn count_outgoing<E>(link: &Link<E>) -> usize {
-    if link.is_over {
-        return 0;
+// How many bytes of a connection reach its relay, if any are to be sent: half the time all.
+fn count_reaching<C: Client, E>(dice: &mut Dice, link: &Link<C, E>) -> Option<usize> {
+    let len = link.client.unsent().len();
+    if link.is_over || len == 0 {
+        return None;
     }
-    link.client.outgoing().len()
+    let some = dice.below(len);
+    if dice.once_in(2) {
+        Some(len)
+    } else {
+        Some(some)
+    }
 }
 
 // So many bytes of a connection reach the relay: whether the whole message is there then.
@@ -47,23 +57,23 @@ fn bring<R: Wait, P: Parts, M: Machine>(
     rt: &R,
     alloc: Global,
     site: &mut Site<P>,
-    link: &mut Link<P::Server>,
+    link: &mut Link<P::Client, P::Server>,
     count: usize,
     judge: &mut Judge<M>,
 ) -> Result<bool, AllocError> {
     if let Some(open) = &mut site.open {
         take_in(rt, alloc, open, link, count, judge)?;
     }
-    if !link.client.outgoing().is_empty() {
+    if !link.client.unsent().is_empty() {
         return Ok(false);
     }
-    link.delivery = note_mail(rt, alloc, site, judge, mail_of(link))?;
+    link.delivery = note_mail(rt, alloc, site, judge, &mail_of(link))?;
     Ok(true)
 }
 
 // A message that is whole at its relay: its number, the source that it came in at, its bytes and
 // those of its entries, and whether a delivery of it waits.
-#[derive(Clone, Copy)]
+#[derive(Drop)]
 struct Mail<'a> {
     message: u64,
     source: usize,
@@ -73,7 +83,7 @@ struct Mail<'a> {
 }
 
 // The message of a connection.
-fn mail_of<E: Server>(link: &Link<E>) -> Mail<'_> {
+fn mail_of<C, E: Server>(link: &Link<C, E>) -> Mail<'_> {
     Mail {
         message: link.message,
         source: link.source,
@@ -88,7 +98,7 @@ fn take_in<R: Wait, P: Parts, M: Machine>(
     rt: &R,
     alloc: Global,
     open: &mut P,
-    link: &mut Link<P::Server>,
+    link: &mut Link<P::Client, P::Server>,
     count: usize,
     judge: &mut Judge<M>,
 ) -> Result<(), AllocError> {
@@ -103,20 +113,11 @@ fn take_bytes<R: Wait, P: Parts>(
     rt: &R,
     alloc: Global,
     open: &mut P,
-    link: &mut Link<P::Server>,
+    link: &mut Link<P::Client, P::Server>,
     count: usize,
 ) -> Result<bool, AllocError> {
-    let piece = next_piece(alloc, link, count)?;
+    let piece = link.client.take_piece(alloc, count)?;
     open.receive(rt, alloc, link.source, &mut link.server, &piece)
-}
-
-// So many of the bytes that are to be sent, or all, are sent.
-fn next_piece<E>(alloc: Global, link: &mut Link<E>, count: usize) -> Result<Vec<u8>, AllocError> {
-    let outgoing = link.client.outgoing();
-    let len = count.min(outgoing.len());
-    let piece = Vec::from_slice(alloc, outgoing.split_at(len).0)?;
-    link.client.sent(len);
-    Ok(piece)
 }
 
 // The whole message is there: what the relay makes of it is told. Where a device failed, each append
@@ -126,32 +127,29 @@ fn note_mail<R: Wait, P: Parts, M: Machine>(
     alloc: Global,
     site: &mut Site<P>,
     judge: &mut Judge<M>,
-    mail: Mail<'_>,
+    mail: &Mail<'_>,
 ) -> Result<Option<u64>, AllocError> {
     let Some(open) = &site.open else {
         return fail_mail(judge, mail, "goes nowhere");
     };
-    let began = note_way(rt, alloc, open, site.number, &mut site.chunks, judge, mail)?;
+    let began = note_way(rt, alloc, open, &mut site.chunks, judge, mail)?;
     if began.is_some() && !mail.is_waiting {
         site.refuse(Refusal::Message(mail.message));
     }
     Ok(began)
 }
 
-// The same of the relay with this number and these parts, of whose chunks this was told.
+// The same of the relay with these parts, of whose chunks this was told.
 fn note_way<R: Wait, P: Parts, M: Machine>(
     rt: &R,
     alloc: Global,
     open: &P,
-    number: u32,
     chunks: &mut Chunks,
     judge: &mut Judge<M>,
-    mail: Mail<'_>,
+    mail: &Mail<'_>,
 ) -> Result<Option<u64>, AllocError> {
     match open.way(alloc, mail.source, mail.bytes)? {
-        Way::Buffers(branches) => {
-            note_branches(rt, alloc, open, number, chunks, judge, mail, &branches)
-        }
+        Way::Buffers(branches) => note_branches(rt, alloc, open, chunks, judge, mail, &branches),
         Way::Nowhere => fail_mail(judge, mail, "goes nowhere"),
         Way::NoMessage => fail_mail(judge, mail, "isn't one"),
     }
@@ -160,7 +158,7 @@ fn note_way<R: Wait, P: Parts, M: Machine>(
 // This is wrong of a message, of which no delivery began.
 fn fail_mail<M: Machine>(
     judge: &mut Judge<M>,
-    mail: Mail<'_>,
+    mail: &Mail<'_>,
     what: &str,
 ) -> Result<Option<u64>, AllocError> {
     judge.fail_message(mail.message, what)?;
@@ -173,31 +171,20 @@ fn note_branches<R: Wait, P: Parts, M: Machine>(
     rt: &R,
     alloc: Global,
     open: &P,
-    number: u32,
     chunks: &mut Chunks,
     judge: &mut Judge<M>,
-    mail: Mail<'_>,
+    mail: &Mail<'_>,
     branches: &Branches<Global>,
 ) -> Result<Option<u64>, AllocError> {
-    if have_room(open, chunks, &branches.buffers, mail.entries.len()) {
-        let delivery = judge.begin(mail.message)?;
-        let tag = branches.tag.as_bytes();
+    let buffers = branches.buffers.as_slice();
+    if have_room(open, chunks, buffers, mail.entries.len()) {
         let one = Delivery {
-            number: delivery,
-            tag,
+            number: judge.begin(mail.message)?,
+            tag: branches.tag.as_bytes(),
             entries: mail.entries,
         };
-        note_appends(
-            rt,
-            alloc,
-            open,
-            number,
-            chunks,
-            judge,
-            &branches.buffers,
-            one,
-        )?;
-        return Ok(Some(delivery));
+        note_appends(rt, alloc, open, chunks, judge, buffers, &one)?;
+        return Ok(Some(one.number));
     }
     if mail.is_waiting {
         return fail_mail(judge, mail, "is taken without room");
@@ -205,29 +192,21 @@ fn note_branches<R: Wait, P: Parts, M: Machine>(
     Ok(None)
 }
 
-// A delivery: its number, and what it has its buffers append.
-#[derive(Clone, Copy)]
-struct Delivery<'a> {
-    number: u64,
-    tag: &'a [u8],
-    entries: &'a [u8],
-}
-
 // The delivery was appended to each of these buffers.
 fn note_appends<R: Wait, P: Parts, M: Machine>(
     rt: &R,
     alloc: Global,
     open: &P,
-    number: u32,
     chunks: &mut Chunks,
     judge: &mut Judge<M>,
     buffers: &[BufferNo],
-    one: Delivery<'_>,
+    one: &Delivery<'_>,
 ) -> Result<(), AllocError> {
     for buffer in buffers {
         let settings = open.settings(buffer.0);
-        note_drops(settings, number, chunks, judge, buffer.0, one.entries.len())?;
-        note_append(rt, alloc, open, chunks, judge, buffer.0, one)?;
+        note_drops(settings, chunks, judge, buffer.0, one.entries.len())?;
+        let name = growing_chunk(rt, open, chunks, buffer.0, one.tag);
+        note_append(alloc, chunks, judge, name, one)?;
     }
     Ok(())
 }
@@ -235,7 +214,7 @@ fn note_appends<R: Wait, P: Parts, M: Machine>(
 // Whether each of these buffers takes so many bytes more, by what was told of the relay's chunks.
 fn have_room<P: Parts>(open: &P, chunks: &Chunks, buffers: &[BufferNo], len: usize) -> bool {
     for buffer in buffers {
-        if !has_room(open.settings(buffer.0), chunks, buffer.0, len) {
+        if !has_room(open.settings(buffer.0), chunks.tally(buffer.0), len) {
             return false;
         }
     }
@@ -243,73 +222,48 @@ fn have_room<P: Parts>(open: &P, chunks: &Chunks, buffers: &[BufferNo], len: usi
 }
 
 // Whether a buffer does. Where it drops the oldest, all that are queued may go for them.
-fn has_room(settings: Option<Settings>, chunks: &Chunks, buffer: usize, len: usize) -> bool {
-    match settings {
-        Some(settings) => {
-            let size = chunks.size(buffer, !settings.drops_oldest);
-            fits(settings, size, len)
-        }
-        None => true,
+fn has_room(settings: Settings, tally: Tally, len: usize) -> bool {
+    if settings.drops_oldest {
+        return settings.fits(tally.others, len);
     }
-}
-
-// Whether a buffer takes these two together.
-fn fits(settings: Settings, size: usize, len: usize) -> bool {
-    size.saturating_add(len) as u64 <= settings.limit
+    settings.fits(tally.size(), len)
 }
 
 // The oldest chunks went from this buffer so that it takes so many bytes.
 fn note_drops<M: Machine>(
-    settings: Option<Settings>,
-    number: u32,
+    settings: Settings,
     chunks: &mut Chunks,
     judge: &mut Judge<M>,
     buffer: usize,
     len: usize,
 ) -> Result<(), AllocError> {
-    for _ in 0..chunks.count_live(buffer) {
-        if let Some(serial) = to_drop(settings, chunks, buffer, len) {
-            tell_oldest(number, chunks, judge, buffer, serial)?;
+    for _ in 0..chunks.tally(buffer).count {
+        if let Some(serial) = to_drop(settings, chunks.tally(buffer), len) {
+            let name = chunks.name(buffer, serial);
+            tell_oldest(chunks, judge, name)?;
         }
     }
     Ok(())
 }
 
 // The chunk that goes from a buffer first so that it takes so many bytes more, where one does.
-fn to_drop(settings: Option<Settings>, chunks: &Chunks, buffer: usize, len: usize) -> Option<u64> {
-    match settings {
-        Some(settings)
-            if settings.drops_oldest && !fits(settings, chunks.size(buffer, true), len) => {
-            chunks.oldest_queued(buffer)
-        }
-        _ => None,
+fn to_drop(settings: Settings, tally: Tally, len: usize) -> Option<u64> {
+    if settings.drops_oldest && !settings.fits(tally.size(), len) {
+        return tally.oldest;
     }
+    None
 }
 
-// The delivery was appended to this buffer.
-fn note_append<R: Wait, P: Parts, M: Machine>(
-    rt: &R,
+// The delivery was appended to this chunk.
+fn note_append<M: Machine>(
     alloc: Global,
-    open: &P,
     chunks: &mut Chunks,
     judge: &mut Judge<M>,
-    buffer: usize,
-    one: Delivery<'_>,
+    name: Name,
+    one: &Delivery<'_>,
 ) -> Result<(), AllocError> {
-    let serial = growing_chunk(rt, open, chunks, buffer, one.tag);
-    let line = judge.tell_numbers("append", &[one.number, buffer as u64, serial])?;
-    let append = appended(alloc, one, line)?;
-    chunks.append(alloc, buffer, serial, one.tag, append)
-}
-
-// An append of a delivery, which is told in this line, and isn't synced.
-fn appended(alloc: Global, one: Delivery<'_>, line: usize) -> Result<Appended, AllocError> {
-    Ok(Appended {
-        delivery: one.number,
-        line,
-        bytes: Vec::from_slice(alloc, one.entries)?,
-        is_synced: false,
-    })
+    let line = judge.tell_numbers("append", &[one.number, name.buffer as u64, name.serial])?;
+    chunks.append(alloc, name, one, line)
 }
 
 // The chunk of this tag to which a buffer appended: its next chunk where that is there now, and
@@ -320,10 +274,10 @@ fn growing_chunk<R: Wait, P: Parts>(
     chunks: &Chunks,
     buffer: usize,
     tag: &[u8],
-) -> u64 {
+) -> Name {
     let next = chunks.next_of(buffer);
     if open.is_live(rt, buffer, next) {
-        return next;
+        return chunks.name(buffer, next);
     }
-    chunks.staged(buffer, tag).unwrap_or(next)
+    chunks.name(buffer, chunks.staged(buffer, tag).unwrap_or(next))
 }

@@ -5,6 +5,21 @@ use std::alloc::{AllocError, Global};
 /// No relay has more buffers.
 pub const BUFFERS: usize = 16;
 
+/// The name of a chunk in a step: the numbers of its relay and of its buffer, and its serial.
+#[derive(Clone, Copy)]
+pub struct Name {
+    pub relay: u32,
+    pub buffer: usize,
+    pub serial: u64,
+}
+
+impl Name {
+    /// Whether it is that one.
+    pub fn is(self, other: Name) -> bool {
+        self.relay == other.relay && self.buffer == other.buffer && self.serial == other.serial
+    }
+}
+
 /// How far a chunk is.
 #[derive(Clone, Copy)]
 pub enum Stage {
@@ -33,11 +48,18 @@ impl Drop for Appended {
     }
 }
 
+/// A delivery: its number, and what it has its buffers append.
+#[derive(Drop)]
+pub struct Delivery<'a> {
+    pub number: u64,
+    pub tag: &'a [u8],
+    pub entries: &'a [u8],
+}
+
 /// A chunk of a buffer, with the lines of the step that queued it and of that by which it went, and
 /// whether a stop can't undo what was told of it.
 pub struct Chunk {
-    pub buffer: usize,
-    pub serial: u64,
+    pub name: Name,
     pub tag: Vec<u8>,
     pub appends: Vec<Appended>,
     pub stage: Stage,
@@ -49,8 +71,7 @@ pub struct Chunk {
 impl Drop for Chunk {
     fn drop(self) {
         let Chunk {
-            buffer: _,
-            serial: _,
+            name: _,
             tag: _,
             appends: _,
             stage: _,
@@ -61,54 +82,40 @@ impl Drop for Chunk {
     }
 }
 
-/// How what was found of a chunk differs from what was told.
-#[derive(Clone, Copy)]
-pub enum Found {
-    /// So many of its appends are there, and no others were synced.
-    First(usize),
-    Wrong,
-}
-
 impl Chunk {
-    // A staged chunk with this append alone.
-    fn new(
-        alloc: Global,
-        buffer: usize,
-        serial: u64,
-        tag: &[u8],
-        append: Appended,
-    ) -> Result<Chunk, AllocError> {
-        let mut appends = Vec::new(alloc);
-        appends.push(append)?;
-        Ok(Chunk {
-            buffer,
-            serial,
-            tag: Vec::from_slice(alloc, tag)?,
-            appends,
-            stage: Stage::Staged,
-            queued: None,
-            went: 0,
-            is_synced: false,
-        })
-    }
-
-    /// How many of its appends these bytes are.
-    pub fn found(&self, bytes: &[u8]) -> Found {
+    /// How many of its appends these bytes are, behind which none was synced; `None` where they are
+    /// something else.
+    pub fn found(&self, bytes: &[u8]) -> Option<usize> {
         let mut rest = bytes;
         for (at, append) in self.appends.iter().enumerate() {
             if rest.is_empty() && !append.is_synced {
-                return Found::First(at);
+                return Some(at);
             }
-            match rest.strip_prefix(append.bytes.as_slice()) {
-                Some(behind) => rest = behind,
-                None => return Found::Wrong,
-            }
+            rest = rest.strip_prefix(append.bytes.as_slice())?;
         }
-        if rest.is_empty() {
-            Found::First(self.appends.len())
-        } else {
-            Found::Wrong
+        if !rest.is_empty() {
+            return None;
         }
+        Some(self.appends.len())
+    }
+
+    // This is appended to it.
+    fn append(
+        &mut self,
+        alloc: Global,
+        delivery: u64,
+        line: usize,
+        bytes: &[u8],
+    ) -> Result<(), AllocError> {
+        self.appends.reserve(1)?;
+        let bytes = Vec::from_slice(alloc, bytes)?;
+        self.appends.push_reserved(Appended {
+            delivery,
+            line,
+            bytes,
+            is_synced: false,
+        });
+        Ok(())
     }
 
     // How many bytes its entries have.
@@ -153,77 +160,140 @@ impl Chunk {
     }
 }
 
-/// The chunks of a relay, live ones and those that went, and the next serial of each buffer.
-#[derive(Drop)]
+/// What a buffer has of chunks that didn't go.
+#[derive(Clone, Copy)]
+pub struct Tally {
+    /// How many there are.
+    pub count: usize,
+    /// How many bytes of entries the queued ones have.
+    pub queued: usize,
+    /// How many bytes of entries the others have.
+    pub others: usize,
+    /// The least serial of a queued one.
+    pub oldest: Option<u64>,
+}
+
+impl Tally {
+    /// How many bytes of entries all of them have.
+    pub fn size(self) -> usize {
+        self.queued.saturating_add(self.others)
+    }
+
+    // The same with this chunk.
+    fn with(self, chunk: &Chunk) -> Tally {
+        let mut tally = self;
+        tally.count = tally.count.saturating_add(1);
+        match chunk.stage {
+            Stage::Gone => return self,
+            Stage::Staged | Stage::Claimed => {
+                tally.others = tally.others.saturating_add(chunk.size());
+            }
+            Stage::Queued => {
+                tally.queued = tally.queued.saturating_add(chunk.size());
+                tally.oldest = Some(lesser(tally.oldest, chunk.name.serial));
+            }
+        }
+        tally
+    }
+}
+
+/// The chunks of the relay with this number, live ones and those that went, and the next serial of
+/// each buffer.
 pub struct Chunks {
+    pub relay: u32,
     pub all: Vec<Chunk>,
-    pub next: [u64; BUFFERS],
+    next: [u64; BUFFERS],
+}
+
+impl Drop for Chunks {
+    fn drop(self) {
+        let Chunks {
+            relay: _,
+            all: _,
+            next: _,
+        } = self;
+    }
 }
 
 impl Chunks {
     /// No chunks.
-    pub fn new(alloc: Global) -> Chunks {
+    pub fn new(alloc: Global, relay: u32) -> Chunks {
         Chunks {
+            relay,
             all: Vec::new(alloc),
             next: [0; BUFFERS],
         }
     }
 
+    /// The name of a chunk of a buffer.
+    pub fn name(&self, buffer: usize, serial: u64) -> Name {
+        Name {
+            relay: self.relay,
+            buffer,
+            serial,
+        }
+    }
+
     /// The next serial of a buffer.
     pub fn next_of(&self, buffer: usize) -> u64 {
-        self.next.get(buffer).copied().unwrap_or(0)
+        match self.next.get(buffer) {
+            Some(next) => *next,
+            None => 0,
+        }
     }
 
     /// The last staged chunk of a buffer with this tag.
     pub fn staged(&self, buffer: usize, tag: &[u8]) -> Option<u64> {
         let mut last = None;
         for chunk in &self.all {
-            if chunk.buffer == buffer
+            if chunk.name.buffer == buffer
                 && matches!(chunk.stage, Stage::Staged)
                 && chunk.tag.as_slice() == tag
             {
-                last = Some(chunk.serial);
+                last = Some(chunk.name.serial);
             }
         }
         last
     }
 
     /// The chunk of this name.
-    pub fn find(&mut self, buffer: usize, serial: u64) -> Option<&mut Chunk> {
+    pub fn find(&mut self, name: Name) -> Option<&mut Chunk> {
         for chunk in self.all.iter_mut() {
-            if chunk.buffer == buffer && chunk.serial == serial {
+            if chunk.name.is(name) {
                 return Some(chunk);
             }
         }
         None
     }
 
-    /// An append to the chunk of this serial, which may be the next one.
+    /// A delivery is appended to this chunk, which may be the next one of its buffer.
     pub fn append(
         &mut self,
         alloc: Global,
-        buffer: usize,
-        serial: u64,
-        tag: &[u8],
-        append: Appended,
+        name: Name,
+        one: &Delivery<'_>,
+        line: usize,
     ) -> Result<(), AllocError> {
-        match self.find(buffer, serial) {
-            Some(chunk) => Ok(chunk.appends.push(append)?),
-            None => self.begin(Chunk::new(alloc, buffer, serial, tag, append)?),
+        if self.find(name).is_none() {
+            self.begin(alloc, name, one.tag)?;
+        }
+        match self.find(name) {
+            Some(chunk) => chunk.append(alloc, one.number, line, one.entries),
+            None => Ok(()),
         }
     }
 
-    // This is the last chunk of its buffer.
-    fn begin(&mut self, chunk: Chunk) -> Result<(), AllocError> {
-        if let Some(next) = self.next.get_mut(chunk.buffer) {
-            *next = chunk.serial.saturating_add(1);
+    // A staged chunk begins, the last one of its buffer.
+    fn begin(&mut self, alloc: Global, name: Name, tag: &[u8]) -> Result<(), AllocError> {
+        if let Some(next) = self.next.get_mut(name.buffer) {
+            *next = name.serial.saturating_add(1);
         }
-        Ok(self.all.push(chunk)?)
+        begin_in(&mut self.all, alloc, name, tag)
     }
 
     /// The chunk comes to this stage.
-    pub fn restage(&mut self, buffer: usize, serial: u64, stage: Stage, line: usize) {
-        if let Some(chunk) = self.find(buffer, serial) {
+    pub fn restage(&mut self, name: Name, stage: Stage, line: usize) {
+        if let Some(chunk) = self.find(name) {
             chunk.stage = stage;
             chunk.went = line;
             chunk.is_synced = false;
@@ -257,50 +327,32 @@ impl Chunks {
 
     fn is_due(&self, buffer: usize, staged: bool) -> bool {
         for chunk in &self.all {
-            if chunk.buffer == buffer && chunk.is_due(staged) {
+            if chunk.name.buffer == buffer && chunk.is_due(staged) {
                 return true;
             }
         }
         false
     }
 
-    /// How many bytes of entries the chunks of a buffer have that didn't go, with those of queued
-    /// ones or without.
-    pub fn size(&self, buffer: usize, with_queued: bool) -> usize {
-        let mut size = 0usize;
+    /// What a buffer has.
+    pub fn tally(&self, buffer: usize) -> Tally {
+        let mut tally = Tally {
+            count: 0,
+            queued: 0,
+            others: 0,
+            oldest: None,
+        };
         for chunk in &self.all {
-            if chunk.buffer == buffer && stays(chunk.stage, with_queued) {
-                size = size.saturating_add(chunk.size());
+            if chunk.name.buffer == buffer {
+                tally = tally.with(chunk);
             }
         }
-        size
-    }
-
-    /// The queued chunk of a buffer with the least serial.
-    pub fn oldest_queued(&self, buffer: usize) -> Option<u64> {
-        let mut least = None;
-        for chunk in &self.all {
-            if chunk.buffer == buffer && matches!(chunk.stage, Stage::Queued) {
-                least = Some(lesser(least, chunk.serial));
-            }
-        }
-        least
-    }
-
-    /// How many chunks a buffer has that didn't go.
-    pub fn count_live(&self, buffer: usize) -> usize {
-        let mut count = 0usize;
-        for chunk in &self.all {
-            if chunk.buffer == buffer && !matches!(chunk.stage, Stage::Gone) {
-                count = count.saturating_add(1);
-            }
-        }
-        count
+        tally
     }
 
     fn sync_buffer(&mut self, buffer: usize) {
         for chunk in self.all.iter_mut() {
-            if chunk.buffer == buffer {
+            if chunk.name.buffer == buffer {
                 chunk.sync();
             }
         }
@@ -318,13 +370,20 @@ impl Chunks {
     }
 }
 
-// Whether a chunk in this stage stays in its buffer, where queued ones do or don't.
-fn stays(stage: Stage, with_queued: bool) -> bool {
-    match stage {
-        Stage::Staged | Stage::Claimed => true,
-        Stage::Queued => with_queued,
-        Stage::Gone => false,
-    }
+// A staged chunk without appends is the last of these.
+fn begin_in(all: &mut Vec<Chunk>, alloc: Global, name: Name, tag: &[u8]) -> Result<(), AllocError> {
+    all.reserve(1)?;
+    let tag = Vec::from_slice(alloc, tag)?;
+    all.push_reserved(Chunk {
+        name,
+        tag,
+        appends: Vec::new(alloc),
+        stage: Stage::Staged,
+        queued: None,
+        went: 0,
+        is_synced: false,
+    });
+    Ok(())
 }
 
 // The lesser of these serials.

@@ -2,7 +2,8 @@
 
 use crate::disk::Stop;
 use crate::lent::Lendable;
-use crate::product::Output;
+use crate::parts::SinkContent;
+use crate::product::SinkOutput;
 use ack_receipt::SharedBuffer;
 use disk_files::Dir;
 use flush_pool::SinkCourier;
@@ -10,20 +11,6 @@ use loop_core::Lanes;
 use sink_series::{Series, SinkEvent};
 use std::alloc::{AllocError, Global};
 use std::sync::{Arc, Wait};
-
-/// What failed of a relay before it was stopped: a buffer, or a device.
-#[derive(Clone, Copy)]
-pub struct Failed {
-    pub buffer: bool,
-    pub device: bool,
-}
-
-/// What a sink holds, by the number of its buffer.
-#[derive(Drop)]
-pub struct SinkContent {
-    pub buffer: usize,
-    pub events: Vec<SinkEvent<Global>>,
-}
 
 /// Ends the lanes of a relay: whether one of its buffers had failed.
 pub fn end_lanes<R: Wait, D: Dir + Drop>(rt: &R, lanes: Lanes<D, Global>) -> bool {
@@ -63,7 +50,7 @@ fn let_go<D: Lendable + Drop>(dir: D, stop: Stop) -> bool {
 /// failed. Behind one that can't be read, none is looked at, and `None` is said.
 pub fn close_sinks<D: Lendable + Drop>(
     alloc: Global,
-    outputs: Vec<Output<D>>,
+    outputs: Vec<SinkOutput<D>>,
     stop: Stop,
     have_failed: &mut bool,
 ) -> Result<Option<Vec<SinkContent>>, AllocError> {
@@ -81,17 +68,13 @@ pub fn close_sinks<D: Lendable + Drop>(
 // The same of one output: whether its sink can be read, if it has one.
 fn close_output<D: Lendable + Drop>(
     alloc: Global,
-    output: Output<D>,
+    output: SinkOutput<D>,
     stop: Stop,
     buffer: usize,
     have_failed: &mut bool,
     all: &mut Vec<SinkContent>,
 ) -> Result<bool, AllocError> {
-    let Output {
-        settings: _,
-        path,
-        sink,
-    } = output;
+    let (path, sink) = output.into_sink();
     let Some(sink) = sink else {
         return Ok(true);
     };

@@ -60,8 +60,8 @@ impl Dice {
     /// Devices for a relay: at times those of its buffers may fail, or those of its sinks.
     pub fn devices(&mut self) -> Devices {
         match self.below(4) {
-            0 => self.failing_buffers(60),
-            1 => self.failing_sinks(20),
+            0 => Devices::under_buffers(self.failing(60)),
+            1 => Devices::under_sinks(self.failing(20)),
             _ => Devices::SOUND,
         }
     }
@@ -69,26 +69,9 @@ impl Dice {
     /// Devices that fail early, under buffers or under sinks.
     pub fn early_devices(&mut self) -> Devices {
         if self.once_in(4) {
-            self.failing_sinks(6)
-        } else {
-            self.failing_buffers(20)
+            return Devices::under_sinks(self.failing(6));
         }
-    }
-
-    // Devices under buffers that fail behind fewer calls than these.
-    fn failing_buffers(&mut self, calls: usize) -> Devices {
-        Devices {
-            buffers: self.failing(calls),
-            sinks: Device::Sound,
-        }
-    }
-
-    // Devices under sinks that fail behind fewer calls than these.
-    fn failing_sinks(&mut self, calls: usize) -> Devices {
-        Devices {
-            buffers: Device::Sound,
-            sinks: self.failing(calls),
-        }
+        Devices::under_buffers(self.failing(20))
     }
 
     // A device that fails all calls, or one, behind fewer than these.

@@ -30,6 +30,22 @@ impl Devices {
         sinks: Device::Sound,
     };
 
+    /// Only the one under each buffer may fail.
+    pub fn under_buffers(buffers: Device) -> Devices {
+        Devices {
+            buffers,
+            sinks: Device::Sound,
+        }
+    }
+
+    /// Only the one under each sink may fail.
+    pub fn under_sinks(sinks: Device) -> Devices {
+        Devices {
+            buffers: Device::Sound,
+            sinks,
+        }
+    }
+
     /// Whether one may fail.
     pub fn may_fail(&self) -> bool {
         !matches!(self.buffers, Device::Sound) || !matches!(self.sinks, Device::Sound)

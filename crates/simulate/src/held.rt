@@ -1,24 +1,10 @@
 //! The chunks that workers have claimed.
 
+use crate::chunks::Name;
 use crate::parts::{Hold, Parts};
 use ack_receipt::Evidence;
 use std::alloc::Global;
 use std::sync::Wait;
-
-/// The name of a chunk in a step: the place of its relay, the number of its buffer, and its serial.
-#[derive(Clone, Copy)]
-pub struct Name {
-    pub site: usize,
-    pub buffer: usize,
-    pub serial: u64,
-}
-
-impl Name {
-    /// Whether it is that one.
-    pub fn is(self, other: Name) -> bool {
-        self.site == other.site && self.buffer == other.buffer && self.serial == other.serial
-    }
-}
 
 /// A chunk that a worker has claimed, and its name.
 pub struct Held<H> {
@@ -34,26 +20,26 @@ impl<H: Hold> Held<H> {
     }
 }
 
-/// Claims the first chunk that is queued in this buffer of the relay at this place; nothing where
-/// there is none, or no memory.
+/// Claims the first chunk that is queued in this buffer of the relay with this number; nothing
+/// where there is none, or no memory.
 pub fn claim<R: Wait, P: Parts>(
     rt: &R,
     parts: &P,
-    site: usize,
+    relay: u32,
     buffer: usize,
 ) -> Option<Held<P::Hold>> {
     match parts.claim(rt, buffer) {
-        Some(hold) => Some(named(site, buffer, hold)),
+        Some(hold) => Some(named(relay, buffer, hold)),
         None => None,
     }
 }
 
 // A claimed chunk with its name.
-fn named<H: Hold>(site: usize, buffer: usize, hold: H) -> Held<H> {
+fn named<H: Hold>(relay: u32, buffer: usize, hold: H) -> Held<H> {
     let serial = hold.claim().serial();
     Held {
         name: Name {
-            site,
+            relay,
             buffer,
             serial,
         },
@@ -87,10 +73,10 @@ pub fn name_at<H>(all: &[Held<H>], at: usize) -> Option<Name> {
     }
 }
 
-/// A chunk that the workers of the relay at this place have claimed.
-pub fn first_of<H>(all: &[Held<H>], site: usize) -> Option<Name> {
+/// A chunk that the workers of this relay have claimed.
+pub fn first_of<H>(all: &[Held<H>], relay: u32) -> Option<Name> {
     for held in all {
-        if held.name.site == site {
+        if held.name.relay == relay {
             return Some(held.name);
         }
     }

@@ -1,8 +1,9 @@
 //! The machine as the judge of a run.
 
+use crate::chunks::Name;
 use crate::machine::Machine;
+use crate::text::{put, put_number};
 use std::alloc::{AllocError, Global};
-use std::fmt::Write;
 
 /// The steps that the run was told as, in the form that a replay takes, and the network as the
 /// machine has it behind them.
@@ -87,21 +88,15 @@ impl<M: Machine> Judge<M> {
     }
 
     /// This is wrong of a chunk.
-    pub fn fail_chunk(
-        &mut self,
-        relay: u32,
-        buffer: usize,
-        serial: u64,
-        what: &str,
-    ) -> Result<(), AllocError> {
-        self.fail_at("chunk", &[u64::from(relay), buffer as u64, serial], what)
+    pub fn fail_chunk(&mut self, name: Name, what: &str) -> Result<(), AllocError> {
+        self.fail_at("chunk", &numbers_of(name), what)
     }
 
     /// This is wrong of what such numbers name.
     pub fn fail_at(&mut self, word: &str, numbers: &[u64], what: &str) -> Result<(), AllocError> {
-        let mut text = line(self.alloc, word, "/", numbers)?;
-        write!(&mut text, " {what}")?;
-        self.fail(text);
+        if self.wrong.is_none() {
+            self.wrong = Some(said(self.alloc, word, numbers, what)?);
+        }
         Ok(())
     }
 
@@ -111,41 +106,27 @@ impl<M: Machine> Judge<M> {
     }
 
     /// Takes a step of a chunk, and says at which place it is told.
-    pub fn tell_chunk(
-        &mut self,
-        word: &str,
-        relay: u32,
-        buffer: usize,
-        serial: u64,
-    ) -> Result<usize, AllocError> {
-        let numbers = [u64::from(relay), buffer as u64, serial];
-        self.tell(line(self.alloc, word, "/", &numbers)?)
+    pub fn tell_chunk(&mut self, word: &str, name: Name) -> Result<usize, AllocError> {
+        self.tell(line(self.alloc, word, "/", &numbers_of(name))?)
     }
 
     /// Takes a step of a chunk with a number behind its name.
     pub fn tell_chunk_with(
         &mut self,
         word: &str,
-        relay: u32,
-        buffer: usize,
-        serial: u64,
+        name: Name,
         number: usize,
     ) -> Result<usize, AllocError> {
-        let numbers = [u64::from(relay), buffer as u64, serial];
-        let mut text = line(self.alloc, word, "/", &numbers)?;
-        write!(&mut text, " {number}")?;
+        let mut text = line(self.alloc, word, "/", &numbers_of(name))?;
+        put_number(&mut text, " ", number as u64, "")?;
         self.tell(text)
     }
 
     /// Takes a step, and says at which place it is told.
     pub fn tell(&mut self, line: String) -> Result<usize, AllocError> {
+        let (machine, wrong) = (&mut self.machine, &mut self.wrong);
+        take(self.alloc, machine, wrong, line.as_str())?;
         let at = self.lines.len();
-        take(
-            self.alloc,
-            &mut self.machine,
-            &mut self.wrong,
-            line.as_str(),
-        )?;
         self.lines.push(line)?;
         Ok(at)
     }
@@ -160,13 +141,9 @@ impl<M: Machine> Judge<M> {
     /// Takes all steps again, from the beginning, without those that were taken out.
     pub fn begin_again(&mut self) -> Result<(), AllocError> {
         self.machine.begin_again(self.alloc);
+        let (machine, wrong) = (&mut self.machine, &mut self.wrong);
         for line in &self.lines {
-            take(
-                self.alloc,
-                &mut self.machine,
-                &mut self.wrong,
-                line.as_str(),
-            )?;
+            take(self.alloc, machine, wrong, line.as_str())?;
         }
         Ok(())
     }
@@ -188,12 +165,24 @@ fn take<M: Machine>(
     Ok(())
 }
 
+// What is wrong of what such numbers name.
+fn said(alloc: Global, word: &str, numbers: &[u64], what: &str) -> Result<String, AllocError> {
+    let mut text = line(alloc, word, "/", numbers)?;
+    put(&mut text, &[" ", what])?;
+    Ok(text)
+}
+
+// The numbers in a chunk's name.
+fn numbers_of(name: Name) -> [u64; 3] {
+    [u64::from(name.relay), name.buffer as u64, name.serial]
+}
+
 // A word and such numbers, with this between them.
 fn line(alloc: Global, word: &str, between: &str, numbers: &[u64]) -> Result<String, AllocError> {
     let mut text = String::from_str(alloc, word)?;
     let mut before = " ";
     for number in numbers {
-        write!(&mut text, "{before}{number}")?;
+        put_number(&mut text, before, *number, "")?;
         before = between;
     }
     Ok(text)

@@ -1,10 +1,10 @@
 //! The machine that judges a run.
 
-use crate::closing::SinkContent;
 use custody_core::is_kept_as;
 use custody_steps::{Event, World};
 use loss_checker::Plan;
 use relay_net::Net;
+use sink_series::SinkEvent;
 use std::alloc::{AllocError, Global};
 use step_lines::Step;
 
@@ -16,20 +16,14 @@ pub trait Machine: Drop {
     /// It is as it was before the first step.
     fn begin_again(&mut self, alloc: Global);
 
-    /// How many entries a relay's sink has.
-    fn count_in_sink(&self, relay: u32, buffer: usize) -> usize;
-
-    /// Whether a relay's sink has this, and nothing else.
-    fn has_in_sink(&self, relay: u32, content: &SinkContent) -> bool;
+    /// The entries of a relay's sink.
+    fn sink(&self, relay: u32, buffer: usize) -> &[Event<Global>];
 
     /// Whether an entry is held under this tag.
     fn holds(&self, tag: &[u8], entry: &[u8]) -> bool;
 
-    /// How many events were acknowledged to clients.
-    fn count_acknowledged(&self) -> usize;
-
-    /// Whether the event of this number of them is kept as is asked.
-    fn keeps(&self, number: usize) -> Result<bool, AllocError>;
+    /// The number of the first event that was acknowledged to a client and isn't kept as is asked.
+    fn first_lost(&self) -> Result<Option<usize>, AllocError>;
 }
 
 /// The machine that is proved, over a plan.
@@ -66,25 +60,21 @@ impl<'n> Machine for Proved<'n> {
         self.world = World::new(alloc, self.plan.net());
     }
 
-    fn count_in_sink(&self, relay: u32, buffer: usize) -> usize {
-        self.world.sink(u64::from(relay), buffer as u64).len()
-    }
-
-    fn has_in_sink(&self, relay: u32, content: &SinkContent) -> bool {
-        let told = self.world.sink(u64::from(relay), content.buffer as u64);
-        is_same(content, told)
+    fn sink(&self, relay: u32, buffer: usize) -> &[Event<Global>] {
+        self.world.sink(u64::from(relay), buffer as u64)
     }
 
     fn holds(&self, tag: &[u8], entry: &[u8]) -> bool {
         self.world.held(tag, entry)
     }
 
-    fn count_acknowledged(&self) -> usize {
-        self.world.acknowledged().len()
-    }
-
-    fn keeps(&self, number: usize) -> Result<bool, AllocError> {
-        is_kept_as(&self.world, self.plan.duty(), number)
+    fn first_lost(&self) -> Result<Option<usize>, AllocError> {
+        for number in 0..self.world.acknowledged().len() {
+            if !is_kept_as(&self.world, self.plan.duty(), number)? {
+                return Ok(Some(number));
+            }
+        }
+        Ok(None)
     }
 }
 
@@ -99,11 +89,12 @@ fn take_all(world: &mut World<'_, Global>, steps: &[Step<Global>]) -> Option<&'s
     wrong
 }
 
-fn is_same(content: &SinkContent, told: &[Event<Global>]) -> bool {
-    if content.events.len() != told.len() {
+/// Whether a sink holds what was told, and nothing else.
+pub fn is_same(found: &[SinkEvent<Global>], told: &[Event<Global>]) -> bool {
+    if found.len() != told.len() {
         return false;
     }
-    for (found, told) in content.events.iter().zip(told) {
+    for (found, told) in found.iter().zip(told) {
         if found.tag() != told.tag.as_slice() || found.entry() != told.entry.as_slice() {
             return false;
         }

@@ -23,6 +23,7 @@ mod judge;
 mod lent;
 mod link;
 mod machine;
+mod opened;
 mod opening;
 mod parts;
 mod playing;
@@ -36,10 +37,11 @@ mod shorter;
 mod site;
 mod stock;
 mod storing;
+mod text;
 mod working;
 
-use runs::Drawn;
-use shorter::shorten;
+use runs::run_all;
+use shorter::run_shorter;
 use std::process::ExitCode;
 use std::sync::Wait;
 use std::time::Clock;
@@ -52,78 +54,6 @@ enum Asked {
     Runs(u64, u64),
     /// The run of this seed, shorter where it is wrong.
     Shorter(u64),
-}
-
-fn print_wrong<R: Print + AllocGlobal>(rt: &R, drawn: &Drawn, what: &str) -> io::Result<()> {
-    let drawing = &drawn.drawing;
-    println!(rt; "seed {}\n== plan\n{}", drawn.seed, drawing.plan)?;
-    let mut number = drawing.first;
-    for conf in &drawing.confs {
-        let text = String::from_utf8_lossy(rt.alloc(), conf)?;
-        println!(rt; "== {number}.conf\n{text}")?;
-        number = number.saturating_add(1);
-    }
-    println!(rt; "== steps\n{what}")
-}
-
-fn run_all<R: Wait + Clock + Print + AllocGlobal>(
-    rt: &R,
-    first: u64,
-    count: u64,
-) -> io::Result<u8> {
-    for seed in first..first.saturating_add(count) {
-        let drawn = Drawn::new(rt.alloc(), seed)?;
-        if is_wrong(rt, &drawn)? {
-            return Ok(1);
-        }
-    }
-    println!(rt; "{count} runs")?;
-    Ok(0)
-}
-
-// Whether a run is wrong, which is printed then.
-fn is_wrong<R: Wait + Clock + Print + AllocGlobal>(rt: &R, drawn: &Drawn) -> io::Result<bool> {
-    let acts = drawn.acts(rt.alloc())?;
-    is_wrong_with(rt, drawn, &acts)
-}
-
-// The same of the run that has these acts alone.
-fn is_wrong_with<R: Wait + Clock + Print + AllocGlobal>(
-    rt: &R,
-    drawn: &Drawn,
-    acts: &[u64],
-) -> io::Result<bool> {
-    match drawn.wrong_with(rt, rt.alloc(), acts)? {
-        Some(what) => {
-            print_wrong(rt, drawn, what.as_str())?;
-            Ok(true)
-        }
-        None => Ok(false),
-    }
-}
-
-// The run of this seed; where it is wrong, one with fewer acts, whose numbers are printed behind
-// it.
-fn run_shorter<R: Wait + Clock + Print + AllocGlobal>(rt: &R, seed: u64) -> io::Result<u8> {
-    let drawn = Drawn::new(rt.alloc(), seed)?;
-    let all = drawn.acts(rt.alloc())?;
-    shorten_wrong(rt, &drawn, all)
-}
-
-// The same of the run with these acts.
-fn shorten_wrong<R: Wait + Clock + Print + AllocGlobal>(
-    rt: &R,
-    drawn: &Drawn,
-    all: Vec<u64>,
-) -> io::Result<u8> {
-    if drawn.wrong_with(rt, rt.alloc(), &all)?.is_none() {
-        println!(rt; "1 runs")?;
-        return Ok(0);
-    }
-    let acts = shorten(rt, rt.alloc(), drawn, all)?;
-    is_wrong_with(rt, drawn, &acts)?;
-    println!(rt; "== acts\n{acts:?}")?;
-    Ok(1)
 }
 
 // What the words ask for; `None` for other words.
@@ -144,10 +74,32 @@ fn read_words(rt: &HostRuntime) -> io::Result<Option<Asked>> {
     }
 }
 
+// Runs what is asked for, and prints how many runs there were, or what is wrong with one: the
+// status.
+fn run_asked<R: Wait + Clock + Print + AllocGlobal>(rt: &R, asked: Asked) -> io::Result<u8> {
+    match asked {
+        Asked::Runs(first, count) => show(rt, count, run_all(rt, rt.alloc(), first, count)?),
+        Asked::Shorter(seed) => show(rt, 1, run_shorter(rt, rt.alloc(), seed)?),
+    }
+}
+
+// Prints that so many runs went well, or what is wrong with one: the status.
+fn show<R: Print>(rt: &R, count: u64, wrong: Option<String>) -> io::Result<u8> {
+    match wrong {
+        Some(text) => {
+            println!(rt; "{text}")?;
+            Ok(1)
+        }
+        None => {
+            println!(rt; "{count} runs")?;
+            Ok(0)
+        }
+    }
+}
+
 fn main(rt: HostRuntime) -> ExitCode {
     let status = match read_words(&rt) {
-        Ok(Some(Asked::Runs(first, count))) => run_all(&rt, first, count).unwrap_or(2),
-        Ok(Some(Asked::Shorter(seed))) => run_shorter(&rt, seed).unwrap_or(2),
+        Ok(Some(asked)) => run_asked(&rt, asked).unwrap_or(2),
         _ => 2,
     };
     ExitCode::from(status)

@@ -2,10 +2,10 @@
 
 use crate::drawing::FIRST_PORT;
 use crate::lent::Lendable;
-use crate::parts::{Aim, Settings};
-use crate::product::{Folders, OpenRelay, Output};
+use crate::opened::Opened;
+use crate::parts::{Aim, Settings, Target};
+use crate::product::{Folders, OpenRelay, Output, SinkOutput};
 use crate::shelf::Shelf;
-use ack_receipt::Numbers;
 use flush_pool::SinkCourier;
 use loop_core::{RelayParts, open_all, parts_of};
 use relay_conf::{BufferKind, BufferSettings, ForwardSettings, OverflowAction, Relay, Source};
@@ -82,20 +82,14 @@ fn open_buffers<D: Lendable + Drop>(
 fn put_together<D: Lendable + Drop>(
     parts: RelayParts<D, Global>,
     inlets: Vec<Arc<Inlet<Global>>>,
-    outputs: Vec<Output<D>>,
+    outputs: Vec<SinkOutput<D>>,
 ) -> OpenRelay<D> {
     let RelayParts {
         lanes,
         buffers,
         jobs: _,
     } = parts;
-    OpenRelay {
-        lanes,
-        buffers,
-        inlets,
-        outputs,
-        numbers: Numbers::new(),
-    }
+    Opened::new(lanes, buffers, outputs, inlets)
 }
 
 // What the configuration says.
@@ -148,7 +142,7 @@ fn open_sinks<D: Lendable + Drop>(
     alloc: Global,
     shelf: &Shelf<D>,
     outputs: &[BufferedOutput<Global>],
-) -> Result<Option<Vec<Output<D>>>, AllocError> {
+) -> Result<Option<Vec<SinkOutput<D>>>, AllocError> {
     let mut all = Vec::new(alloc);
     for output in outputs {
         match open_output(alloc, shelf, output)? {
@@ -164,14 +158,10 @@ fn open_output<D: Lendable + Drop>(
     alloc: Global,
     shelf: &Shelf<D>,
     output: &BufferedOutput<Global>,
-) -> Result<Option<Output<D>>, AllocError> {
+) -> Result<Option<SinkOutput<D>>, AllocError> {
     let settings = settings_of(output.buffer(), aim_of(output));
     match output {
-        BufferedOutput::Forward(_) => Ok(Some(Output {
-            settings,
-            path: Vec::new(alloc),
-            sink: None,
-        })),
+        BufferedOutput::Forward(_) => Ok(Some(Output::new(settings, Vec::new(alloc), None))),
         BufferedOutput::File(file) => open_sink(alloc, shelf, settings, file.path.as_bytes()),
     }
 }
@@ -182,13 +172,11 @@ fn open_sink<D: Lendable + Drop>(
     shelf: &Shelf<D>,
     settings: Settings,
     path: &[u8],
-) -> Result<Option<Output<D>>, AllocError> {
-    match Rotation::open(alloc, shelf.take(path)?, path, LIMITS, 0) {
-        Ok(sink) => Ok(Some(Output {
-            settings,
-            path: Vec::from_slice(alloc, path)?,
-            sink: Some(SinkCourier::new(sink)),
-        })),
+) -> Result<Option<SinkOutput<D>>, AllocError> {
+    let dir = shelf.take(path)?;
+    let name = Vec::from_slice(alloc, path)?;
+    match Rotation::open(alloc, dir, path, LIMITS, 0) {
+        Ok(sink) => Ok(Some(Output::new(settings, name, Some(SinkCourier::new(sink))))),
         Err(_) => Ok(None),
     }
 }
@@ -218,9 +206,9 @@ fn aim_by(settings: &ForwardSettings<Global>) -> Aim {
         return Aim::Nowhere;
     };
     let port = server.port.saturating_sub(FIRST_PORT) as usize;
-    Aim::Relay {
+    Aim::Relay(Target {
         to: port / 10,
         source: port % 10,
         asks: settings.require_ack_response,
-    }
+    })
 }

@@ -3,11 +3,13 @@
 //! All that runs is written over these traits, so that none of it is proved over what the product's
 //! parts are made of (`product`).
 
-use crate::closing::{Failed, SinkContent};
 use crate::disk::{Devices, Stop};
+use crate::sending::Letter;
 use ack_receipt::{Claim, Evidence};
 use event_modes::Entries;
+use forward_core::Heard;
 use relay_ports::Branches;
+use sink_series::SinkEvent;
 use std::alloc::{AllocError, Global};
 use std::sync::Wait;
 use std::time::Clock;
@@ -17,12 +19,15 @@ use std::time::Clock;
 pub enum Aim {
     Nowhere,
     Sink,
-    /// The relay at this place, by this source, with or without an acknowledgement.
-    Relay {
-        to: usize,
-        source: usize,
-        asks: bool,
-    },
+    Relay(Target),
+}
+
+/// The relay at this place, by this source, with or without an acknowledgement.
+#[derive(Clone, Copy)]
+pub struct Target {
+    pub to: usize,
+    pub source: usize,
+    pub asks: bool,
 }
 
 /// What is looked at of an output's settings.
@@ -38,6 +43,22 @@ pub struct Settings {
     pub limit: u64,
 }
 
+impl Settings {
+    /// Of an output that isn't there.
+    pub const NONE: Settings = Settings {
+        aim: Aim::Nowhere,
+        is_in_memory: false,
+        drops_oldest: false,
+        gives_up: false,
+        limit: u64::MAX,
+    };
+
+    /// Whether the buffer takes these two together.
+    pub fn fits(self, size: usize, len: usize) -> bool {
+        size.saturating_add(len) as u64 <= self.limit
+    }
+}
+
 /// What is done in an open relay from time to time.
 #[derive(Clone, Copy)]
 pub enum Task {
@@ -49,6 +70,28 @@ pub enum Task {
     Renew,
 }
 
+/// What failed of a relay before it was stopped: a buffer, or a device.
+#[derive(Clone, Copy)]
+pub struct Failed {
+    pub buffer: bool,
+    pub device: bool,
+}
+
+/// What a sink holds, by the number of its buffer.
+pub struct SinkContent {
+    pub buffer: usize,
+    pub events: Vec<SinkEvent<Global>>,
+}
+
+impl Drop for SinkContent {
+    fn drop(self) {
+        let SinkContent {
+            buffer: _,
+            events: _,
+        } = self;
+    }
+}
+
 /// Where a relay's matches send a message.
 #[derive(Drop)]
 pub enum Way {
@@ -56,6 +99,21 @@ pub enum Way {
     NoMessage,
     Nowhere,
     Buffers(Branches<Global>),
+}
+
+/// A sender's end of a connection.
+pub trait Client: Drop + Sized {
+    /// One that has this message to send; `None` where it can't be sent.
+    fn sending(alloc: Global, letter: &Letter<'_>) -> Result<Option<Self>, AllocError>;
+
+    /// What of it is to be sent.
+    fn unsent(&self) -> &[u8];
+
+    /// Sends so many bytes of that at most.
+    fn take_piece(&mut self, alloc: Global, most: usize) -> Result<Vec<u8>, AllocError>;
+
+    /// Hears these bytes of an answer.
+    fn hear(&mut self, bytes: &[u8]) -> Result<Heard<Global>, AllocError>;
 }
 
 /// A relay's end of a connection.
@@ -94,14 +152,14 @@ pub trait Parts: Sized {
     /// What outlives its stops.
     type Folders: Drop;
 
+    /// Who sends to it.
+    type Client: Client;
+
     /// Its ends of connections.
     type Server: Server;
 
     /// Its chunks that are claimed.
     type Hold: Hold;
-
-    /// Where ends of connections end while no relay is open.
-    type Spare;
 
     /// The folders of a relay with this number and configuration that was never open.
     fn new_folders(alloc: Global, number: u32, conf: &[u8]) -> Result<Self::Folders, AllocError>;
@@ -139,8 +197,8 @@ pub trait Parts: Sized {
     /// How many buffers it has.
     fn count_buffers(&self) -> usize;
 
-    /// What is said of the output of a buffer, if there is one.
-    fn settings(&self, buffer: usize) -> Option<Settings>;
+    /// What is said of the output of a buffer.
+    fn settings(&self, buffer: usize) -> Settings;
 
     /// Whether a buffer has a chunk of this serial.
     fn is_live<R: Wait>(&self, rt: &R, buffer: usize, serial: u64) -> bool;
@@ -180,12 +238,6 @@ pub trait Parts: Sized {
     /// Ends an end of a connection.
     fn hang_up<R: Wait>(&mut self, rt: &R, server: Self::Server);
 
-    /// Where ends of connections end while no relay is open.
-    fn spare(alloc: Global) -> Result<Self::Spare, AllocError>;
-
-    /// Ends an end of a connection there.
-    fn hang_up_in<R: Wait>(rt: &R, server: Self::Server, spare: &mut Self::Spare);
-
-    /// Ends that.
-    fn end_spare<R: Wait>(rt: &R, spare: Self::Spare);
+    /// A relay without buffers, where ends of connections end while no other is open.
+    fn spare(alloc: Global) -> Result<Self, AllocError>;
 }

@@ -6,15 +6,19 @@
 ghost use Rattle.std.specs.Prelude.{◌≡◌, length};
 ghost use Rattle.std.specs.Arc.{arc_value};
 
-use crate::closing::{Failed, SinkContent, close_buffers, close_sinks, end_lanes};
+use crate::closing::{close_buffers, close_sinks, end_lanes};
 use crate::disk::{Devices, Stop};
 use crate::lent::Lendable;
+use crate::opened::Opened;
 use crate::opening::open_relay;
-use crate::parts::{Hold, Parts, Server, Settings, Task, Way};
+use crate::parts::{Client, Failed, Hold, Parts, Server, Settings, SinkContent, Task, Way};
+use crate::sending::Letter;
 use crate::shelf::Shelf;
 use ack_receipt::{Claim, Evidence, Numbers, SharedBuffer};
-use event_modes::{Entries, Message, Read, read};
+use disk_files::Dir;
+use event_modes::{Entries, LONGEST_TAG, Message, Read, read};
 use flush_pool::{ClaimView, Courier, SinkCourier};
+use forward_core::{ClientSession, Heard};
 use loop_core::{Lanes, Peer};
 use relay_ports::Inlet;
 use std::alloc::{AllocError, Global};
@@ -42,27 +46,66 @@ impl<D: Lendable> Drop for Folders<D> {
 }
 
 /// An output: what is looked at of its settings, and its sink, if it has one, with the sink's path.
-#[derive(Drop)]
-pub struct Output<D: Lendable + Drop> {
-    pub settings: Settings,
-    pub path: Vec<u8>,
-    pub sink: Option<SinkCourier<D, Global>>,
+pub struct Output<S> {
+    settings: Settings,
+    path: Vec<u8>,
+    sink: Option<S>,
 }
 
-/// A relay that is open.
-pub struct OpenRelay<D: Lendable + Drop> {
-    pub lanes: Lanes<D, Global>,
-    pub buffers: Vec<Arc<SharedBuffer<D, Global>>>,
-    pub inlets: Vec<Arc<Inlet<Global>>>,
-    pub outputs: Vec<Output<D>>,
-    pub numbers: Numbers,
+impl<S: Drop> Drop for Output<S> {
+    fn drop(self) {
+        let Output {
+            settings: _,
+            path: _,
+            sink: _,
+        } = self;
+    }
 }
+
+impl<S> Output<S> {
+    /// An output with these settings, whose sink is at this path.
+    pub fn new(settings: Settings, path: Vec<u8>, sink: Option<S>) -> Output<S> {
+        Output {
+            settings,
+            path,
+            sink,
+        }
+    }
+
+    /// Its sink, if it has one, and the sink's path.
+    pub fn into_sink(self) -> (Vec<u8>, Option<S>) {
+        let Output {
+            settings: _,
+            path,
+            sink,
+        } = self;
+        (path, sink)
+    }
+}
+
+/// An output whose sink is in such a folder.
+pub type SinkOutput<D> = Output<SinkCourier<D, Global>>;
+
+/// A relay that is open, over such folders.
+pub type OpenRelay<D> = Opened<
+    Lanes<D, Global>,
+    Arc<SharedBuffer<D, Global>>,
+    SinkOutput<D>,
+    Arc<Inlet<Global>>,
+>;
 
 /// A claimed chunk, and the buffer that it is of.
 pub struct Claimed<D: Lendable + Drop> {
     shared: Arc<SharedBuffer<D, Global>>,
     claim: Claim<Global>,
     ghost same: { claim.leaf ≡ (arc_value shared).leaf },
+}
+
+impl<D: Lendable + Drop> Claimed<D> {
+    // What a courier is shown of it.
+    fn view(&self) -> ClaimView<'_, D, Global> {
+        ClaimView::new(&self.shared, &self.claim)
+    }
 }
 
 impl<D: Lendable + Drop> Hold for Claimed<D> {
@@ -92,6 +135,32 @@ impl<D: Lendable + Drop> Hold for Claimed<D> {
     }
 }
 
+impl Client for ClientSession<Global> {
+    fn sending(alloc: Global, letter: &Letter<'_>) -> Result<Option<Self>, AllocError> {
+        if letter.tag.len() > LONGEST_TAG || letter.entries.as_bytes().len() > u32::MAX as usize {
+            return Ok(None);
+        }
+        let mut client = ClientSession::open(alloc, None, [0; 16])?;
+        client.send(letter.tag, letter.entries, letter.id, letter.target.asks)?;
+        Ok(Some(client))
+    }
+
+    fn unsent(&self) -> &[u8] {
+        self.outgoing()
+    }
+
+    fn take_piece(&mut self, alloc: Global, most: usize) -> Result<Vec<u8>, AllocError> {
+        let count = most.min(self.outgoing().len());
+        let piece = Vec::from_slice(alloc, self.outgoing().split_at(count).0)?;
+        self.sent(count);
+        Ok(piece)
+    }
+
+    fn hear(&mut self, bytes: &[u8]) -> Result<Heard<Global>, AllocError> {
+        self.feed(bytes)
+    }
+}
+
 impl Server for Peer<Global> {
     fn awaits(&self) -> bool {
         self.is_waiting()
@@ -112,11 +181,11 @@ impl Server for Peer<Global> {
 impl<D: Lendable + Drop> Parts for OpenRelay<D> {
     type Folders = Folders<D>;
 
+    type Client = ClientSession<Global>;
+
     type Server = Peer<Global>;
 
     type Hold = Claimed<D>;
-
-    type Spare = Lanes<D, Global>;
 
     fn new_folders(alloc: Global, number: u32, conf: &[u8]) -> Result<Folders<D>, AllocError> {
         Ok(Folders {
@@ -149,68 +218,55 @@ impl<D: Lendable + Drop> Parts for OpenRelay<D> {
         stop: Stop,
         failed: &mut Failed,
     ) -> Result<Option<Vec<SinkContent>>, AllocError> {
-        let OpenRelay {
-            lanes,
-            buffers,
-            inlets: _,
-            outputs,
-            numbers: _,
-        } = self;
+        let (lanes, buffers, outputs) = self.into_parts();
         failed.buffer = end_lanes(rt, lanes);
         failed.device = close_buffers(buffers, stop);
         close_sinks(alloc, outputs, stop.settled(), &mut failed.device)
     }
 
     fn end<R: Wait>(self, rt: &R) {
-        let OpenRelay {
-            lanes,
-            buffers: _,
-            inlets: _,
-            outputs: _,
-            numbers: _,
-        } = self;
-        let _ = lanes.end(rt);
+        let _ = self.into_lanes().end(rt);
     }
 
     fn has_fault(&self) -> bool {
-        self.lanes.fault().is_some()
+        self.seen_lanes().fault().is_some()
     }
 
     fn tend<R: Wait>(&mut self, rt: &R, task: Task) {
         match task {
-            Task::Queue => self.lanes.queue_due(rt),
-            Task::Redeem => self.lanes.redeem(rt),
-            Task::Renew => self.lanes.renew(rt),
+            Task::Queue => self.lanes().queue_due(rt),
+            Task::Redeem => self.lanes().redeem(rt),
+            Task::Renew => self.lanes().renew(rt),
         }
     }
 
     fn count_buffers(&self) -> usize {
-        self.buffers.len()
+        self.count()
     }
 
-    fn settings(&self, buffer: usize) -> Option<Settings> {
-        match self.outputs.get(buffer) {
-            Some(output) => Some(output.settings),
-            None => None,
+    fn settings(&self, buffer: usize) -> Settings {
+        match self.output(buffer) {
+            Some(output) => output.settings,
+            None => Settings::NONE,
         }
     }
 
     fn is_live<R: Wait>(&self, rt: &R, buffer: usize, serial: u64) -> bool {
-        match self.buffers.get(buffer) {
+        match self.buffer(buffer) {
             Some(shared) => shared.is_live(rt, serial),
             None => false,
         }
     }
 
     fn claim<R: Wait>(&self, rt: &R, buffer: usize) -> Option<Claimed<D>> {
-        match self.buffers.get(buffer) {
+        match self.buffer(buffer) {
             Some(shared) => claim(rt, shared),
             None => None,
         }
     }
 
     fn drop_oldest<R: Wait>(&self, rt: &R, buffer: usize) -> Option<u64> {
-        match self.buffers.get(buffer) {
+        match self.buffer(buffer) {
             Some(shared) => shared.drop_oldest(rt).ok(),
             None => None,
         }
@@ -222,14 +278,14 @@ impl<D: Lendable + Drop> Parts for OpenRelay<D> {
         buffer: usize,
         hold: &Claimed<D>,
     ) -> Option<Evidence<Global>> {
-        match self.outputs.get(buffer) {
-            Some(output) => carried(rt, &output.sink, hold),
+        match self.output(buffer) {
+            Some(output) => carried(rt, &output.sink, &hold.view()),
             None => None,
         }
     }
 
     fn way(&self, alloc: Global, source: usize, bytes: &[u8]) -> Result<Way, AllocError> {
-        way_in(alloc, self.inlets.get(source), bytes)
+        way_in(alloc, self.inlet(source), bytes)
     }
 
     fn receive<R: Wait>(
@@ -240,31 +296,26 @@ impl<D: Lendable + Drop> Parts for OpenRelay<D> {
         server: &mut Option<Peer<Global>>,
         piece: &[u8],
     ) -> Result<bool, AllocError> {
-        let Some(inlet) = self.inlets.get(source) else {
-            return Ok(false);
-        };
-        let (lanes, numbers) = (&mut self.lanes, &mut self.numbers);
-        receive_at(rt, alloc, inlet, server, piece, lanes, numbers)
+        match self.entrance(source) {
+            Some((inlet, lanes, numbers)) => {
+                receive_at(rt, alloc, inlet, server, piece, lanes, numbers)
+            }
+            None => Ok(false),
+        }
     }
 
     fn settle<R: Wait>(&mut self, rt: &R, alloc: Global, server: &mut Peer<Global>) {
-        server.settle(rt, alloc, &mut self.lanes);
+        server.settle(rt, alloc, self.lanes());
     }
 
     fn hang_up<R: Wait>(&mut self, rt: &R, server: Peer<Global>) {
-        server.end(rt, &mut self.lanes);
+        server.end(rt, self.lanes());
     }
 
-    fn spare(alloc: Global) -> Result<Lanes<D, Global>, AllocError> {
-        Lanes::with_capacity(alloc, 0)
-    }
-
-    fn hang_up_in<R: Wait>(rt: &R, server: Peer<Global>, spare: &mut Lanes<D, Global>) {
-        server.end(rt, spare);
-    }
-
-    fn end_spare<R: Wait>(rt: &R, spare: Lanes<D, Global>) {
-        let _ = spare.end(rt);
+    fn spare(alloc: Global) -> Result<Self, AllocError> {
+        let lanes = Lanes::with_capacity(alloc, 0)?;
+        let (buffers, outputs, inlets) = (Vec::new(alloc), Vec::new(alloc), Vec::new(alloc));
+        Ok(Opened::new(lanes, buffers, outputs, inlets))
     }
 }
 
@@ -281,16 +332,15 @@ fn claim<R: Wait, D: Lendable + Drop>(
 }
 
 // The evidence of this sink, if there is one that carries the chunk.
-fn carried<R: Wait + Clock, D: Lendable + Drop>(
+fn carried<R: Wait, D: Dir, C: Courier<R, D, Global>>(
     rt: &R,
-    sink: &Option<SinkCourier<D, Global>>,
-    hold: &Claimed<D>,
+    sink: &Option<C>,
+    chunk: &ClaimView<'_, D, Global>,
 ) -> Option<Evidence<Global>> {
-    let Some(sink) = sink else {
-        return None;
-    };
-    sink.carry(rt, &ClaimView::new(&hold.shared, &hold.claim))
-        .ok()
+    match sink {
+        Some(sink) => sink.carry(rt, chunk).ok(),
+        None => None,
+    }
 }
 
 // Where a message goes that comes in here.
@@ -329,13 +379,26 @@ fn receive_at<R: Wait, D: Lendable + Drop>(
     lanes: &mut Lanes<D, Global>,
     numbers: &mut Numbers,
 ) -> Result<bool, AllocError> {
-    let mut peer = match server.take() {
-        Some(peer) => peer,
-        None => Peer::open(alloc, inlet, None, [0; 16])?,
-    };
-    let taken = peer.receive(rt, alloc, piece, lanes, numbers);
+    if server.is_none() {
+        open_at(rt, alloc, inlet, server, lanes)?;
+    }
+    match server {
+        Some(peer) => Ok(peer.receive(rt, alloc, piece, lanes, numbers).is_ok()),
+        None => Ok(false),
+    }
+}
+
+// An end opens here; another that is there ends.
+fn open_at<R: Wait, D: Lendable + Drop>(
+    rt: &R,
+    alloc: Global,
+    inlet: &Arc<Inlet<Global>>,
+    server: &mut Option<Peer<Global>>,
+    lanes: &mut Lanes<D, Global>,
+) -> Result<(), AllocError> {
+    let peer = Peer::open(alloc, inlet, None, [0; 16])?;
     if let Some(other) = server.replace(peer) {
         other.end(rt, lanes);
     }
-    Ok(taken.is_ok())
+    Ok(())
 }

@@ -1,56 +1,73 @@
 //! A relay stops and opens again, and what is there then is held against what was told.
 
-use crate::chunks::{Chunk, Stage};
-use crate::closing::SinkContent;
+use crate::chunks::{Chunk, Chunks, Name, Stage};
 use crate::dice::Dice;
 use crate::disk::{Devices, Stop};
 use crate::held::{Held, first_of, give_back};
 use crate::judge::Judge;
 use crate::link::{Link, hang_up};
-use crate::machine::Machine;
-use crate::parts::{Hold, Parts};
+use crate::machine::{Machine, is_same};
+use crate::parts::{Hold, Parts, SinkContent};
 use crate::run::Run;
 use crate::sending::ENTRY_LEN;
-use crate::site::Site;
+use crate::site::{Site, SiteOf};
 use crate::stock::take_stock;
 use crate::storing::tell_queued;
 use std::alloc::{AllocError, Global};
 use std::sync::Wait;
 
-impl<P: Parts, M: Machine> Run<P, M> {
-    /// A relay stops, and opens again over such devices. Before it opens, openings may fail: what
-    /// they leave stays.
-    pub fn restart<R: Wait>(
+impl<P: Parts> Run<P> {
+    /// A relay stops, and opens again, over devices that may fail where that is asked for.
+    pub fn restart<R: Wait, M: Machine>(
         &mut self,
         rt: &R,
+        dice: &mut Dice,
+        judge: &mut Judge<M>,
         at: usize,
-        stop: Stop,
-        devices: Devices,
+        may_fail: bool,
     ) -> Result<(), AllocError> {
-        let (alloc, judge) = (self.alloc, &mut self.judge);
         let Some(site) = self.sites.get_mut(at) else {
             return Ok(());
         };
         cut_off(rt, site, &mut self.links, &mut self.held, at);
-        close(rt, alloc, site, stop, judge)?;
-        for _ in 0..self.dice.below(3) {
-            try_to_open(rt, alloc, &mut self.dice, site)?;
-        }
-        let later = self.dice.stop();
-        open_again(rt, alloc, site, judge)?;
-        if devices.may_fail() {
-            return open_over(rt, alloc, site, devices, later, judge);
-        }
-        Ok(())
+        begin_again(rt, self.alloc, dice, judge, site, may_fail)
     }
 }
 
-// A relay that doesn't run opens over devices that fail early, and stops at once.
-fn try_to_open<R: Wait, P: Parts>(
+// The same of a relay to which nothing is connected. Before it opens, openings may fail: what they
+// leave stays.
+fn begin_again<R: Wait, P: Parts, M: Machine>(
     rt: &R,
     alloc: Global,
     dice: &mut Dice,
+    judge: &mut Judge<M>,
     site: &mut Site<P>,
+    may_fail: bool,
+) -> Result<(), AllocError> {
+    let stop = dice.stop();
+    let devices = if may_fail {
+        dice.devices()
+    } else {
+        Devices::SOUND
+    };
+    close(rt, alloc, site, stop, judge)?;
+    for _ in 0..dice.below(3) {
+        try_to_open(rt, alloc, dice, site)?;
+    }
+    let later = dice.stop();
+    open_again(rt, alloc, site, judge)?;
+    if devices.may_fail() {
+        return open_over(rt, alloc, site, devices, later, judge);
+    }
+    Ok(())
+}
+
+// A relay that doesn't run opens over devices that fail early, and stops at once.
+fn try_to_open<R: Wait, P: Parts, N>(
+    rt: &R,
+    alloc: Global,
+    dice: &mut Dice,
+    site: &mut SiteOf<P, N>,
 ) -> Result<(), AllocError> {
     let devices = dice.early_devices();
     let stop = dice.stop();
@@ -62,50 +79,52 @@ fn try_to_open<R: Wait, P: Parts>(
 }
 
 // Nothing that the connections and workers of the relay at this place had goes on.
-fn cut_off<R: Wait, P: Parts>(
+fn cut_off<R: Wait, P: Parts, N>(
     rt: &R,
-    site: &mut Site<P>,
-    links: &mut [Link<P::Server>],
+    site: &mut SiteOf<P, N>,
+    links: &mut [Link<P::Client, P::Server>],
     all: &mut Vec<Held<P::Hold>>,
     at: usize,
 ) {
     if let Some(open) = &mut site.open {
-        cut_links(rt, open, links, at);
+        cut_links(rt, open, links, at, site.number);
     }
-    give_back_of(rt, all, at);
+    give_back_of(rt, all, site.number);
 }
 
 // All that the relay's workers have claimed is given back.
-fn give_back_of<R: Wait, H: Hold>(rt: &R, all: &mut Vec<Held<H>>, at: usize) {
+fn give_back_of<R: Wait, H: Hold>(rt: &R, all: &mut Vec<Held<H>>, relay: u32) {
     for _ in 0..all.len() {
-        if let Some(name) = first_of(all, at) {
+        if let Some(name) = first_of(all, relay) {
             give_back(rt, all, name);
         }
     }
 }
 
-// The connections to the relay at this place break, and who sends from there hears no answer.
-fn cut_links<R: Wait, P: Parts>(rt: &R, open: &mut P, links: &mut [Link<P::Server>], at: usize) {
+// The connections to the relay with this number, which is at this place, break, and who sends from
+// there hears no answer.
+fn cut_links<R: Wait, P: Parts>(
+    rt: &R,
+    open: &mut P,
+    links: &mut [Link<P::Client, P::Server>],
+    at: usize,
+    relay: u32,
+) {
     for link in links.iter_mut() {
-        cut_link(rt, open, link, at);
-    }
-}
-
-// The same of one connection.
-fn cut_link<R: Wait, P: Parts>(rt: &R, open: &mut P, link: &mut Link<P::Server>, at: usize) {
-    if link.to == at {
-        hang_up(rt, open, link);
-    }
-    if link.is_of(at) {
-        link.is_deaf = true;
+        if link.to == at {
+            hang_up(rt, open, link);
+        }
+        if link.is_of(relay) {
+            link.is_deaf = true;
+        }
     }
 }
 
 // Stops the relay, and holds what its sinks have against what was told.
-fn close<R: Wait, P: Parts, M: Machine>(
+fn close<R: Wait, P: Parts, N, M: Machine>(
     rt: &R,
     alloc: Global,
-    site: &mut Site<P>,
+    site: &mut SiteOf<P, N>,
     stop: Stop,
     judge: &mut Judge<M>,
 ) -> Result<(), AllocError> {
@@ -149,89 +168,74 @@ fn open_again<R: Wait, P: Parts, M: Machine>(
     if take_stock(rt, alloc, site, judge)? {
         judge.begin_again()?;
     }
-    note_restart(site, judge)
+    note_restart(&mut site.chunks, judge)
 }
 
-// The restart is told, and all that is there is queued and synced then.
-fn note_restart<P: Parts, M: Machine>(
-    site: &mut Site<P>,
-    judge: &mut Judge<M>,
-) -> Result<(), AllocError> {
-    judge.tell_numbers("restart", &[u64::from(site.number)])?;
-    tell_queued(site.number, &mut site.chunks, judge)?;
-    site.chunks.sync();
-    compare_held(site.number, &site.chunks.all, judge)
+// The restart is told, and all that is there is queued and synced then. The machine holds what the
+// chunks hold, under the same tags.
+fn note_restart<M: Machine>(chunks: &mut Chunks, judge: &mut Judge<M>) -> Result<(), AllocError> {
+    judge.tell_numbers("restart", &[u64::from(chunks.relay)])?;
+    tell_queued(chunks, judge)?;
+    chunks.sync();
+    for chunk in &chunks.all {
+        compare_chunk(chunk, judge)?;
+    }
+    Ok(())
 }
 
 // What the sinks hold is what the machine's hold. Of a write that failed, the first entries may be
 // there, which is told then.
 fn compare_sinks<M: Machine>(
-    number: u32,
+    relay: u32,
     sinks: &[SinkContent],
-    torn: Option<(usize, u64)>,
+    torn: Option<Name>,
     judge: &mut Judge<M>,
 ) -> Result<(), AllocError> {
     for sink in sinks {
-        compare_sink(number, sink, torn, judge)?;
+        compare_sink(relay, sink, torn, judge)?;
     }
     Ok(())
 }
 
 // The same of one sink.
 fn compare_sink<M: Machine>(
-    number: u32,
+    relay: u32,
     sink: &SinkContent,
-    torn: Option<(usize, u64)>,
+    torn: Option<Name>,
     judge: &mut Judge<M>,
 ) -> Result<(), AllocError> {
-    tell_torn(number, sink, torn, judge)?;
-    if judge.machine.has_in_sink(number, sink) {
+    tell_torn(relay, sink, torn, judge)?;
+    if is_same(&sink.events, judge.machine.sink(relay, sink.buffer)) {
         return Ok(());
     }
-    judge.fail_buffer(number, sink.buffer, "has a sink that holds something else")
+    judge.fail_buffer(relay, sink.buffer, "has a sink that holds something else")
 }
 
 // Tells how many entries the sink got of a write that failed, where one of this chunk of its buffer
 // did.
 fn tell_torn<M: Machine>(
-    number: u32,
+    relay: u32,
     sink: &SinkContent,
-    torn: Option<(usize, u64)>,
+    torn: Option<Name>,
     judge: &mut Judge<M>,
 ) -> Result<(), AllocError> {
-    let Some((buffer, serial)) = torn else {
+    let Some(name) = torn else {
         return Ok(());
     };
-    let told = judge.machine.count_in_sink(number, sink.buffer);
+    let told = judge.machine.sink(relay, sink.buffer).len();
     let count = sink.events.len().saturating_sub(told);
-    if buffer == sink.buffer && count > 0 {
-        judge.tell_chunk_with("part", number, buffer, serial, count)?;
+    if name.buffer == sink.buffer && count > 0 {
+        judge.tell_chunk_with("part", name, count)?;
     }
     Ok(())
 }
 
-// The machine holds what a relay's chunks hold, under the same tags.
-fn compare_held<M: Machine>(
-    number: u32,
-    chunks: &[Chunk],
-    judge: &mut Judge<M>,
-) -> Result<(), AllocError> {
-    for chunk in chunks {
-        compare_chunk(number, chunk, judge)?;
-    }
-    Ok(())
-}
-
-// The same of one chunk.
-fn compare_chunk<M: Machine>(
-    number: u32,
-    chunk: &Chunk,
-    judge: &mut Judge<M>,
-) -> Result<(), AllocError> {
+// The machine holds what a chunk holds, unless it went.
+fn compare_chunk<M: Machine>(chunk: &Chunk, judge: &mut Judge<M>) -> Result<(), AllocError> {
     if matches!(chunk.stage, Stage::Gone) || is_held(chunk, &judge.machine) {
         return Ok(());
     }
-    judge.fail_chunk(number, chunk.buffer, chunk.serial, "isn't held")
+    judge.fail_chunk(chunk.name, "isn't held")
 }
 
 fn is_held<M: Machine>(chunk: &Chunk, machine: &M) -> bool {

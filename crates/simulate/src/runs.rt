@@ -6,6 +6,7 @@ use crate::lent::Lent;
 use crate::machine::Proved;
 use crate::playing::{Script, play};
 use crate::product::OpenRelay;
+use crate::text::{put, put_number};
 use disk_files::{Fuse, MemoryDir};
 use label_plan::labelled_text;
 use loss_checker::{Answer, Plan, check, conf_names};
@@ -32,6 +33,33 @@ impl Drop for Drawn {
 
 // What runs where a network is played.
 type Product = OpenRelay<Lent<Fuse<MemoryDir<Global>>>>;
+
+/// Runs so many seeds, from this one on, and says what is printed of the first whose run is wrong;
+/// nothing where all went well.
+pub fn run_all<R: Wait + Clock>(
+    rt: &R,
+    alloc: Global,
+    first: u64,
+    count: u64,
+) -> Result<Option<String>, AllocError> {
+    for seed in first..first.saturating_add(count) {
+        let wrong = run_one(rt, alloc, seed)?;
+        if wrong.is_some() {
+            return Ok(wrong);
+        }
+    }
+    Ok(None)
+}
+
+// The same of one seed.
+fn run_one<R: Wait + Clock>(
+    rt: &R,
+    alloc: Global,
+    seed: u64,
+) -> Result<Option<String>, AllocError> {
+    let drawn = Drawn::new(alloc, seed)?;
+    drawn.told_with(rt, alloc, &drawn.acts(alloc)?)
+}
 
 impl Drawn {
     /// Draws the network of this seed.
@@ -73,8 +101,42 @@ impl Drawn {
             seed: self.seed,
             acts,
         };
-        play::<R, Product, Proved<'_>>(rt, alloc, script, Proved::new(alloc, plan))
+        play::<R, Product, Proved<'_>>(rt, alloc, &script, Proved::new(alloc, plan))
     }
+
+    /// What is printed of that run, where it is wrong.
+    pub fn told_with<R: Wait + Clock>(
+        &self,
+        rt: &R,
+        alloc: Global,
+        acts: &[u64],
+    ) -> Result<Option<String>, AllocError> {
+        match self.wrong_with(rt, alloc, acts)? {
+            Some(what) => Ok(Some(told(alloc, self.seed, &self.drawing, &what)?)),
+            None => Ok(None),
+        }
+    }
+}
+
+// What is printed of the run of this seed, with which this is wrong.
+fn told(alloc: Global, seed: u64, drawing: &Drawing, what: &str) -> Result<String, AllocError> {
+    let mut text = String::new(alloc);
+    put_number(&mut text, "seed ", seed, "\n== plan\n")?;
+    text.push_str(drawing.plan.as_str())?;
+    put_confs(&mut text, drawing.first, &drawing.confs)?;
+    put(&mut text, &["\n== steps\n", what])?;
+    Ok(text)
+}
+
+// The configurations of the relays, whose numbers are these from the first on.
+fn put_confs(text: &mut String, first: u32, confs: &[Vec<u8>]) -> Result<(), AllocError> {
+    let mut number = u64::from(first);
+    for conf in confs {
+        put_number(text, "\n== ", number, ".conf\n")?;
+        text.push_str(str::from_utf8(conf).unwrap_or(""))?;
+        number = number.saturating_add(1);
+    }
+    Ok(())
 }
 
 // The plan of these texts, labelled where labels are found; `None` where it isn't one.

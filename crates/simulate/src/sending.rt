@@ -1,12 +1,13 @@
 //! Messages: a client sends one, and a connection opens on which one is sent.
 
-use crate::held::Name;
+use crate::chunks::Name;
+use crate::dice::Dice;
+use crate::judge::Judge;
 use crate::link::Link;
 use crate::machine::Machine;
-use crate::parts::Parts;
-use crate::run::Run;
-use event_modes::{ChunkId, Entries, LONGEST_TAG};
-use forward_core::ClientSession;
+use crate::parts::{Client, Target};
+use crate::text::put_number;
+use event_modes::{ChunkId, Entries};
 use std::alloc::{AllocError, Global};
 use std::fmt::Write;
 
@@ -48,118 +49,100 @@ fn send_line(
     first: u32,
     count: usize,
 ) -> Result<String, AllocError> {
-    let mut line = format!(in alloc; "send {client} {tag}")?;
-    let mut number = first;
-    for _ in 0..count {
-        write!(&mut line, " 92ce{number:08x}80")?;
-        number = number.saturating_add(1);
-    }
+    let mut line = String::new(alloc);
+    put_number(&mut line, "send ", client as u64, " ")?;
+    line.push_str(tag)?;
+    put_entries(&mut line, first, count)?;
     Ok(line)
 }
 
-/// A message that is to be sent: its tag, its entries, the name that it asks an acknowledgement
-/// for, and whether it does.
-#[derive(Clone, Copy)]
+// So many entries, from this number on, as a step has them.
+fn put_entries(line: &mut String, first: u32, count: usize) -> Result<(), AllocError> {
+    let mut number = first;
+    for _ in 0..count {
+        write!(line, " 92ce{number:08x}80")?;
+        number = number.saturating_add(1);
+    }
+    Ok(())
+}
+
+/// A message that is to be sent: the chunk that it is of, if it is of one, its number, where it
+/// goes and whether it asks for an acknowledgement, its tag, its entries, and the name that an
+/// acknowledgement has.
+#[derive(Drop)]
 pub struct Letter<'a> {
+    pub chunk: Option<Name>,
+    pub message: u64,
+    pub target: Target,
     pub tag: &'a [u8],
     pub entries: &'a Entries<Global>,
     pub id: ChunkId,
-    pub asks: bool,
 }
 
-// A session that has this message to send; `None` where it can't be sent.
-fn session(
+/// A client sends a message of up to three events, of which so many were sent before.
+pub fn send<C: Client, E, M: Machine>(
     alloc: Global,
-    letter: &Letter<'_>,
-) -> Result<Option<ClientSession<Global>>, AllocError> {
-    if letter.tag.len() > LONGEST_TAG || letter.entries.as_bytes().len() > u32::MAX as usize {
-        return Ok(None);
-    }
-    let mut client = ClientSession::open(alloc, None, [0; 16])?;
-    client.send(letter.tag, letter.entries, letter.id, letter.asks)?;
-    Ok(Some(client))
-}
-
-impl<P: Parts, M: Machine> Run<P, M> {
-    /// A client sends a message of up to three events.
-    pub fn send(&mut self) -> Result<(), AllocError> {
-        let client = self.dice.below(2);
-        let tag = tag_of(self.dice.below(3));
-        let count = self.dice.below(4);
-        let first = self.events.saturating_add(1);
-        let line = send_line(self.alloc, client, tag, first, count)?;
-        self.judge.tell(line)?;
-        let message = self.judge.next_message();
-        self.events = self.events.saturating_add(count as u32);
-        send_events(
-            self.alloc,
-            &mut self.links,
-            client,
-            message,
-            tag,
-            first,
-            count,
-        )
-    }
-}
-
-// A client sends so many events, from this number on, as this message.
-fn send_events<E>(
-    alloc: Global,
-    links: &mut Vec<Link<E>>,
-    client: usize,
-    message: u64,
-    tag: &str,
-    first: u32,
-    count: usize,
+    dice: &mut Dice,
+    judge: &mut Judge<M>,
+    links: &mut Vec<Link<C, E>>,
+    events: &mut u32,
 ) -> Result<(), AllocError> {
+    let client = dice.below(2);
+    let tag = tag_of(dice.below(3));
+    let count = dice.below(4);
+    let first = events.saturating_add(1);
+    *events = events.saturating_add(count as u32);
+    judge.tell(send_line(alloc, client, tag, first, count)?)?;
+    let message = judge.next_message();
     match entries(alloc, first, count)? {
-        Some(entries) => {
-            let letter = client_letter(message, tag, &entries);
-            put_link(alloc, links, None, message, 0, client, &letter)
-        }
+        Some(entries) => put_link(alloc, links, &client_letter(client, message, tag, &entries)),
         None => Ok(()),
     }
 }
 
-// What a client sends as this message.
-fn client_letter<'a>(message: u64, tag: &'a str, entries: &'a Entries<Global>) -> Letter<'a> {
-    let id = ChunkId {
-        relay: 4_000_000_000,
-        buffer: 0,
-        serial: message,
-    };
+// What this client sends as this message.
+fn client_letter<'a>(
+    client: usize,
+    message: u64,
+    tag: &'a str,
+    entries: &'a Entries<Global>,
+) -> Letter<'a> {
     Letter {
+        chunk: None,
+        message,
+        target: Target {
+            to: 0,
+            source: client,
+            asks: true,
+        },
         tag: tag.as_bytes(),
         entries,
-        id,
-        asks: true,
+        id: ChunkId {
+            relay: 4_000_000_000,
+            buffer: 0,
+            serial: message,
+        },
     }
 }
 
-/// A connection to this source of a relay opens, on which the message is sent, if it can be sent:
-/// that of a chunk, or a client's.
-pub fn put_link<E>(
+/// A connection opens, on which the message is sent, if it can be sent.
+pub fn put_link<C: Client, E>(
     alloc: Global,
-    links: &mut Vec<Link<E>>,
-    chunk: Option<Name>,
-    message: u64,
-    to: usize,
-    source: usize,
+    links: &mut Vec<Link<C, E>>,
     letter: &Letter<'_>,
 ) -> Result<(), AllocError> {
     links.reserve(1)?;
-    if let Some(client) = session(alloc, letter)? {
-        let bytes = Vec::from_slice(alloc, client.outgoing())?;
+    if let Some(client) = C::sending(alloc, letter)? {
+        let bytes = Vec::from_slice(alloc, client.unsent())?;
         let entries = Vec::from_slice(alloc, letter.entries.as_bytes())?;
         links.push_reserved(Link {
-            chunk,
-            message,
-            to,
-            source,
+            chunk: letter.chunk,
+            message: letter.message,
+            to: letter.target.to,
+            source: letter.target.source,
             bytes,
             entries,
-            asks: letter.asks,
+            asks: letter.target.asks,
             client,
             server: None,
             delivery: None,

@@ -8,9 +8,38 @@ use std::time::Clock;
 // How often all acts are gone through, one after another.
 const ROUNDS: u32 = 8;
 
-/// Leaves out of the acts of a run that is wrong those without which it is wrong too: first those
-/// at the end, then one after another, until none can be left out.
-pub fn shorten<R: Wait + Clock>(
+/// What is printed of the run of this seed, where it is wrong: of one with fewer acts, and their
+/// numbers.
+pub fn run_shorter<R: Wait + Clock>(
+    rt: &R,
+    alloc: Global,
+    seed: u64,
+) -> Result<Option<String>, AllocError> {
+    let drawn = Drawn::new(alloc, seed)?;
+    let all = drawn.acts(alloc)?;
+    if drawn.wrong_with(rt, alloc, &all)?.is_none() {
+        return Ok(None);
+    }
+    let acts = shorten(rt, alloc, &drawn, all)?;
+    told_shorter(rt, alloc, &drawn, &acts)
+}
+
+// What is printed of the run that has these acts alone, with their numbers.
+fn told_shorter<R: Wait + Clock>(
+    rt: &R,
+    alloc: Global,
+    drawn: &Drawn,
+    acts: &[u64],
+) -> Result<Option<String>, AllocError> {
+    match drawn.told_with(rt, alloc, acts)? {
+        Some(told) => Ok(Some(format!(in alloc; "{told}\n== acts\n{acts:?}")?)),
+        None => Ok(None),
+    }
+}
+
+// Leaves out of the acts of a run that is wrong those without which it is wrong too: first those
+// at the end, then one after another, until none can be left out.
+fn shorten<R: Wait + Clock>(
     rt: &R,
     alloc: Global,
     drawn: &Drawn,

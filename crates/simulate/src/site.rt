@@ -1,14 +1,16 @@
 //! A relay of the network: its folders, what was told of its chunks, and its parts while it is
 //! open.
 
-use crate::chunks::Chunks;
-use crate::closing::{Failed, SinkContent};
+use crate::chunks::{Chunks, Name};
 use crate::disk::{Devices, Stop};
 use crate::judge::Judge;
+use crate::link::{Link, hang_up};
 use crate::machine::Machine;
-use crate::parts::{Parts, Settings};
+use crate::parts::{Failed, Parts, Settings, SinkContent};
+use ack_receipt::Evidence;
 use std::alloc::{AllocError, Global};
 use std::sync::Wait;
+use std::time::Clock;
 
 /// A call that was refused.
 #[derive(Clone, Copy)]
@@ -19,35 +21,26 @@ pub enum Refusal {
     Other(&'static str),
 }
 
-/// A relay.
-pub struct Site<P: Parts> {
+/// A relay, with what was told of its chunks.
+pub type Site<P> = SiteOf<P, Chunks>;
+
+/// The same with anything that is noted of its chunks: what looks at another part of it isn't
+/// proved over the notes.
+pub struct SiteOf<P: Parts, N> {
     pub number: u32,
     folders: P::Folders,
-    pub chunks: Chunks,
+    pub chunks: N,
     pub open: Option<P>,
     // A call failed behind which it has to be opened again, which is wrong where no device did
     // fail.
     refusal: Option<Refusal>,
-    /// Whether a device of it may fail.
-    pub is_failing: bool,
-    /// The chunk whose write to a sink failed last: its buffer and its serial.
-    pub torn: Option<(usize, u64)>,
+    // Whether a device of it may fail.
+    is_failing: bool,
+    /// The chunk whose write to a sink failed last.
+    pub torn: Option<Name>,
 }
 
-impl<P: Parts> Site<P> {
-    /// A relay with this configuration that was never open.
-    pub fn new(alloc: Global, number: u32, conf: &[u8]) -> Result<Self, AllocError> {
-        Ok(Site {
-            number,
-            folders: P::new_folders(alloc, number, conf)?,
-            chunks: Chunks::new(alloc),
-            open: None,
-            refusal: None,
-            is_failing: false,
-            torn: None,
-        })
-    }
-
+impl<P: Parts, N> SiteOf<P, N> {
     /// How many buffers it has.
     pub fn count_buffers(&self) -> usize {
         match &self.open {
@@ -56,12 +49,47 @@ impl<P: Parts> Site<P> {
         }
     }
 
-    /// What is said of the output with this number, if the relay is open.
-    pub fn settings(&self, buffer: usize) -> Option<Settings> {
+    /// What is said of the output of a buffer.
+    pub fn settings(&self, buffer: usize) -> Settings {
         match &self.open {
             Some(open) => open.settings(buffer),
+            None => Settings::NONE,
+        }
+    }
+
+    /// The evidence of a buffer's sink, if it has one that carries the chunk.
+    pub fn carry<R: Wait + Clock>(
+        &self,
+        rt: &R,
+        buffer: usize,
+        hold: &P::Hold,
+    ) -> Option<Evidence<Global>> {
+        match &self.open {
+            Some(open) => open.carry(rt, buffer, hold),
             None => None,
         }
+    }
+
+    /// Its end of a connection goes, if it is open.
+    pub fn hang_up<R: Wait>(&mut self, rt: &R, link: &mut Link<P::Client, P::Server>) {
+        if let Some(open) = &mut self.open {
+            hang_up(rt, open, link);
+        }
+    }
+
+    /// The oldest queued chunk of a buffer goes, where its output drops the oldest, and no device
+    /// may fail.
+    pub fn drop_oldest<R: Wait>(&self, rt: &R, buffer: usize) -> Option<u64> {
+        match &self.open {
+            Some(open) if !self.is_failing => open.drop_oldest(rt, buffer),
+            _ => None,
+        }
+    }
+
+    /// The write of a chunk to its sink was refused.
+    pub fn tear(&mut self, name: Name) {
+        self.torn = Some(name);
+        self.refuse(Refusal::Other("a sink can't be written"));
     }
 
     /// A call was refused. Where no device has failed, this is wrong.
@@ -94,22 +122,6 @@ impl<P: Parts> Site<P> {
                 Ok(true)
             }
             None => Ok(false),
-        }
-    }
-
-    /// Ends it.
-    pub fn end<R: Wait>(self, rt: &R) {
-        let Site {
-            number: _,
-            folders: _,
-            chunks: _,
-            open,
-            refusal: _,
-            is_failing: _,
-            torn: _,
-        } = self;
-        if let Some(open) = open {
-            open.end(rt);
         }
     }
 
@@ -150,10 +162,8 @@ impl<P: Parts> Site<P> {
         alloc: Global,
         stop: Stop,
     ) -> Result<(), AllocError> {
-        match self.stop(rt, alloc, stop) {
-            Ok(_) => Ok(()),
-            Err(e) => Err(e),
-        }
+        let _ = self.stop(rt, alloc, stop)?;
+        Ok(())
     }
 
     /// What was refused before the last stop without a failure of a device is wrong.
@@ -165,6 +175,37 @@ impl<P: Parts> Site<P> {
         match self.refusal.take() {
             Some(refusal) => fail_by(alloc, judge, refusal),
             None => Ok(()),
+        }
+    }
+}
+
+impl<P: Parts, N: Drop> SiteOf<P, N> {
+    /// A relay with this configuration that was never open.
+    pub fn new(alloc: Global, number: u32, conf: &[u8], chunks: N) -> Result<Self, AllocError> {
+        Ok(SiteOf {
+            number,
+            folders: P::new_folders(alloc, number, conf)?,
+            chunks,
+            open: None,
+            refusal: None,
+            is_failing: false,
+            torn: None,
+        })
+    }
+
+    /// Ends it.
+    pub fn end<R: Wait>(self, rt: &R) {
+        let SiteOf {
+            number: _,
+            folders: _,
+            chunks: _,
+            open,
+            refusal: _,
+            is_failing: _,
+            torn: _,
+        } = self;
+        if let Some(open) = open {
+            open.end(rt);
         }
     }
 }

@@ -1,7 +1,7 @@
 //! A relay queues what is staged, makes receipts, and answers.
 
 use crate::chunks::{Chunks, Stage};
-use crate::disk::Devices;
+use crate::dice::Dice;
 use crate::judge::Judge;
 use crate::link::Link;
 use crate::machine::Machine;
@@ -11,29 +11,28 @@ use crate::site::Site;
 use std::alloc::{AllocError, Global};
 use std::sync::Wait;
 
-impl<P: Parts, M: Machine> Run<P, M> {
+impl<P: Parts> Run<P> {
     /// A relay queues what is staged, where that is due, and makes its receipts and answers; or it
     /// stops in between. Receipts may be wanting, as where there is no memory for them.
-    pub fn store<R: Wait>(&mut self, rt: &R, at: usize) -> Result<(), AllocError> {
-        let part = self.dice.below(12);
-        let is_due = self.dice.once_in(2);
+    pub fn store<R: Wait, M: Machine>(
+        &mut self,
+        rt: &R,
+        dice: &mut Dice,
+        judge: &mut Judge<M>,
+        at: usize,
+    ) -> Result<(), AllocError> {
+        let part = dice.below(12);
+        let is_due = dice.once_in(2);
         let Some(site) = self.sites.get_mut(at) else {
             return Ok(());
         };
-        prepare(rt, site, is_due, part != 0 && part != 3, &mut self.judge)?;
+        prepare(rt, site, is_due, part != 0 && part != 3, judge)?;
         match part {
             0 => Ok(()),
-            1 => {
-                let stop = self.dice.stop();
-                self.restart(rt, at, stop, Devices::SOUND)
-            }
+            1 => self.restart(rt, dice, judge, at, false),
             _ => {
-                let (links, begun, judge) = (&mut self.links, &self.begun, &mut self.judge);
-                answer(rt, self.alloc, site, links, begun, at, part != 3, judge)?;
-                if part == 2 {
-                    renew(rt, site);
-                }
-                Ok(())
+                let (links, begun) = (&mut self.links, &self.begun);
+                answer(rt, self.alloc, site, links, begun, at, part, judge)
             }
         }
     }
@@ -51,7 +50,7 @@ fn prepare<R: Wait, P: Parts, M: Machine>(
         return Ok(());
     };
     if is_due {
-        queue(rt, open, site.number, &mut site.chunks, judge)?;
+        queue(rt, open, &mut site.chunks, judge)?;
     }
     if are_made {
         redeem(rt, open, &mut site.chunks);
@@ -59,16 +58,16 @@ fn prepare<R: Wait, P: Parts, M: Machine>(
     Ok(())
 }
 
-// Deliveries that have their receipts are answered, in their order: all that ask for it, where
-// receipts were made for all.
+// Deliveries that have their receipts are answered, in their order: all that ask for it, but in
+// part 3, where receipts weren't made for all. In part 2 journals are written anew then.
 fn answer<R: Wait, P: Parts, M: Machine>(
     rt: &R,
     alloc: Global,
     site: &mut Site<P>,
-    links: &mut [Link<P::Server>],
+    links: &mut [Link<P::Client, P::Server>],
     begun: &[usize],
     at: usize,
-    are_made: bool,
+    part: usize,
     judge: &mut Judge<M>,
 ) -> Result<(), AllocError> {
     let Some(open) = &mut site.open else {
@@ -78,24 +77,19 @@ fn answer<R: Wait, P: Parts, M: Machine>(
         if let Some(link) = links.get_mut(*begun)
             && link.to == at
         {
-            settle(rt, alloc, open, &mut site.chunks, link, are_made, judge)?;
+            settle(rt, alloc, open, &mut site.chunks, link, part != 3, judge)?;
         }
     }
-    Ok(())
-}
-
-// Journals are written anew.
-fn renew<R: Wait, P: Parts>(rt: &R, site: &mut Site<P>) {
-    if let Some(open) = &mut site.open {
+    if part == 2 {
         open.tend(rt, Task::Renew);
     }
+    Ok(())
 }
 
 // What is staged is queued, which syncs its journal.
 fn queue<R: Wait, P: Parts, M: Machine>(
     rt: &R,
     open: &mut P,
-    number: u32,
     chunks: &mut Chunks,
     judge: &mut Judge<M>,
 ) -> Result<(), AllocError> {
@@ -103,7 +97,7 @@ fn queue<R: Wait, P: Parts, M: Machine>(
     if !open.has_fault() {
         chunks.sync_buffers(true);
     }
-    tell_queued(number, chunks, judge)
+    tell_queued(chunks, judge)
 }
 
 // Receipts are made, for which each journal with an append that isn't synced is synced.
@@ -120,7 +114,7 @@ fn settle<R: Wait, P: Parts, M: Machine>(
     alloc: Global,
     open: &mut P,
     chunks: &mut Chunks,
-    link: &mut Link<P::Server>,
+    link: &mut Link<P::Client, P::Server>,
     are_made: bool,
     judge: &mut Judge<M>,
 ) -> Result<(), AllocError> {
@@ -137,8 +131,8 @@ fn settle<R: Wait, P: Parts, M: Machine>(
 
 // Whether the relay has answered is asked: then the answer is told, and no stop may lose what it is
 // of.
-fn note_answer<E: Server, M: Machine>(
-    link: &mut Link<E>,
+fn note_answer<C, E: Server, M: Machine>(
+    link: &mut Link<C, E>,
     chunks: &mut Chunks,
     judge: &mut Judge<M>,
 ) -> Result<(), AllocError> {
@@ -157,15 +151,13 @@ fn note_answer<E: Server, M: Machine>(
 
 /// Tells that each staged chunk is queued.
 pub fn tell_queued<M: Machine>(
-    number: u32,
     chunks: &mut Chunks,
     judge: &mut Judge<M>,
 ) -> Result<(), AllocError> {
     for chunk in chunks.all.iter_mut() {
         if matches!(chunk.stage, Stage::Staged) {
             chunk.stage = Stage::Queued;
-            let line = judge.tell_chunk("enqueue", number, chunk.buffer, chunk.serial)?;
-            chunk.queued = Some(line);
+            chunk.queued = Some(judge.tell_chunk("enqueue", chunk.name)?);
         }
     }
     Ok(())
