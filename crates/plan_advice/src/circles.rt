@@ -4,6 +4,7 @@ use crate::flow::{Numbers, Steps, flow, match_of};
 use crate::links::{Link, relays_ahead};
 use crate::notes::Notes;
 use crate::peeling::{between_circles, reversed};
+use crate::pieces::Piece;
 use crate::search::{Search, is_marked, next_of, put_mark};
 use crate::warned_plan::WarnedPlan;
 use loss_rules::line_of;
@@ -66,10 +67,9 @@ fn put_circle<A: Allocator + Copy>(
     if !ahead.has(start) {
         return Ok(());
     }
-    notes.put_warning(
-        about,
-        "relays forward to one another in a circle: an event may go round for ever, and be taken anew each time.",
-    )?;
+    let words =
+        b"relays forward to one another in a circle: an event may go round for ever, and be taken anew each time.";
+    notes.put_warning(about, &[Piece::Text(words)])?;
     for place in 0..about.plan.net().relays().len() {
         if let Some(line) = line_on(about, place, ahead, behind) {
             notes.put_place(about, place, line)?;

@@ -3,8 +3,9 @@
 
 use crate::front::Subject;
 use crate::links::MOST_OUTPUTS;
+use crate::pieces::Piece;
 use crate::site::{match_at, matches_of};
-use crate::story::{put_note, put_numbered};
+use crate::story::put_line;
 use loss_rules::{Label, Place, RelayLine, Rule, buffer_path, fits_any, line_of, sink_path};
 use plan_lines::Plan;
 use relay_conf::{MatchRule, Output};
@@ -78,37 +79,47 @@ impl<A: Allocator + Copy> Subject<'_, A> {
         here: &Entry<'_, A>,
         other: &Entry<'_, A>,
     ) -> Result<(), AllocError> {
-        if other.node.number == here.node.number {
-            self.put_number(out, other.line.line, here.node.number)?;
+        let number = here.node.number;
+        if other.node.number == number {
+            let number = Piece::Number(u64::from(number));
+            self.put_too(out, b"relay", other.line.line, b"number", number)?;
         }
         let folder = here.line.folder.as_bytes();
         if other.line.folder.as_bytes() != folder {
             return Ok(());
         }
-        self.put_too(out, b"relay", other.line.line, b"folder", folder)
-    }
-
-    // Adds that the relay in this line has this number too.
-    fn put_number(&self, out: &mut Vec<u8, A>, line: usize, number: u32) -> Result<(), AllocError> {
-        let text = format!(in self.alloc; "{number}")?;
-        self.put_too(out, b"relay", line, b"number", text.as_bytes())
+        self.put_too(
+            out,
+            b"relay",
+            other.line.line,
+            b"folder",
+            Piece::Text(folder),
+        )
     }
 
     // Adds what the one in this line has too.
-    fn put_too(
+    fn put_too<'p>(
         &self,
         out: &mut Vec<u8, A>,
-        one: &[u8],
+        one: &'p [u8],
         line: usize,
-        kind: &[u8],
-        text: &[u8],
+        kind: &'p [u8],
+        what: Piece<'p>,
     ) -> Result<(), AllocError> {
-        put_numbered(
+        put_line(
             self.alloc,
             out,
-            &[b"  The ", one, b" in line "],
-            line,
-            &[b" has the ", kind, b" ", text, b" too."],
+            &[
+                Piece::Text(b"  The "),
+                Piece::Text(one),
+                Piece::Text(b" in line "),
+                Piece::Number(line as u64),
+                Piece::Text(b" has the "),
+                Piece::Text(kind),
+                Piece::Text(b" "),
+                what,
+                Piece::Text(b" too."),
+            ],
         )
     }
 
@@ -162,20 +173,27 @@ impl<A: Allocator + Copy> Subject<'_, A> {
     }
 
     // Adds these words around an address.
-    fn put_host(
+    fn put_host<'p>(
         &self,
         out: &mut Vec<u8, A>,
-        front: &[u8],
-        host: &[u8],
+        front: &'p [u8],
+        host: &'p [u8],
         port: u16,
-        end: &[u8],
+        end: &'p [u8],
     ) -> Result<(), AllocError> {
-        put_numbered(
+        put_line(
             self.alloc,
             out,
-            &[b"  ", front, b" ", host, b":"],
-            port as usize,
-            &[end, b"."],
+            &[
+                Piece::Text(b"  "),
+                Piece::Text(front),
+                Piece::Text(b" "),
+                Piece::Text(host),
+                Piece::Text(b":"),
+                Piece::Number(u64::from(port)),
+                Piece::Text(end),
+                Piece::Text(b"."),
+            ],
         )
     }
 
@@ -211,7 +229,7 @@ impl<A: Allocator + Copy> Subject<'_, A> {
     ) -> Result<(), AllocError> {
         match (path, its) {
             (Some(path), Some(its)) if path == its => {
-                self.put_too(out, b"output", line, b"path", path)
+                self.put_too(out, b"output", line, b"path", Piece::Text(path))
             }
             _ => Ok(()),
         }
@@ -231,12 +249,19 @@ impl<A: Allocator + Copy> Subject<'_, A> {
 
     // Adds that it is this match, of the configuration with this name.
     fn put_found(&self, out: &mut Vec<u8, A>, found: Found, name: &str) -> Result<(), AllocError> {
-        let line = found.line;
-        let index = found.index;
-        let note = format!(in self.alloc;
-            "  The first that lacks one is the match in line {line} of {name}, with the index {index}."
-        )?;
-        put_note(out, note.as_bytes())
+        put_line(
+            self.alloc,
+            out,
+            &[
+                Piece::Text(b"  The first that lacks one is the match in line "),
+                Piece::Number(found.line as u64),
+                Piece::Text(b" of "),
+                Piece::Text(name.as_bytes()),
+                Piece::Text(b", with the index "),
+                Piece::Number(found.index as u64),
+                Piece::Text(b"."),
+            ],
+        )
     }
 }
 

@@ -17,7 +17,7 @@ const MOST_ITEMS: usize = 32;
 pub(crate) type Numbers<A> = Vec<usize, A>;
 
 /// The steps that are looked at.
-#[derive(Clone, Copy, PartialEq, Eq)]
+#[derive(Clone, Copy)]
 pub(crate) enum Steps {
     /// Forwards and relabels.
     All,
@@ -82,9 +82,10 @@ fn add_of_output<A: Allocator + Copy>(
             };
             add_at(about, at, &reach.patterns, next)
         }
-        Output::Forward { settings, line: _ } if steps == Steps::All => {
-            add_of_servers(about, reach, &settings.servers, next)
-        }
+        Output::Forward { settings, line: _ } => match steps {
+            Steps::All => add_of_servers(about, reach, &settings.servers, next),
+            Steps::Relabels => Ok(()),
+        },
         _ => Ok(()),
     }
 }

@@ -1,14 +1,15 @@
 //! What is said of a broken rule in front of the steps.
 
 use crate::keeping::put_lacks_of;
+use crate::pieces::Piece;
 use crate::site::{MatchSite, Texts, match_at};
-use crate::story::{put_headed, put_joined, put_note, put_numbered};
+use crate::story::{put_headed, put_joined, put_line, put_note};
 use crate::ways::Ways;
 use crate::words::{advice, asks_for_lines, meaning};
 use loss_rules::{Place, Rule};
 use plan_lines::Plan;
 use relay_conf::Output;
-use relay_net::Entrance;
+use relay_net::{Entrance, Node};
 use std::alloc::{AllocError, Allocator};
 
 /// What is explained: a rule that is broken at this place of a plan.
@@ -86,12 +87,16 @@ impl<A: Allocator + Copy> Subject<'_, A> {
             return Ok(());
         };
         match self.plan.relay_lines().get(at) {
-            Some(entry) => put_numbered(
+            Some(entry) => put_line(
                 self.alloc,
                 out,
-                &[b"  That is the configuration of relay "],
-                relay as usize,
-                &[b", whose folder is ", entry.folder.as_bytes(), b"."],
+                &[
+                    Piece::Text(b"  That is the configuration of relay "),
+                    Piece::Number(u64::from(relay)),
+                    Piece::Text(b", whose folder is "),
+                    Piece::Text(entry.folder.as_bytes()),
+                    Piece::Text(b"."),
+                ],
             ),
             None => Ok(()),
         }
@@ -139,16 +144,21 @@ impl<A: Allocator + Copy> Subject<'_, A> {
         let Some(node) = self.plan.net().relays().get(found.at.relay) else {
             return Ok(());
         };
-        let relay = node.number;
-        let scope = match node.relay.scopes.get(found.at.scope) {
-            Some(scope) if found.at.scope > 0 => scope.name.as_str(),
-            _ => ".",
-        };
-        let index = found.index;
-        let note = format!(in self.alloc;
-            "  If what comes there may go on purpose, say so: `relayctl check` with `--drop {relay}:{scope}:{index}`."
-        )?;
-        put_note(out, note.as_bytes())
+        put_line(
+            self.alloc,
+            out,
+            &[
+                Piece::Text(
+                    b"  If what comes there may go on purpose, say so: `relayctl check` with `--drop ",
+                ),
+                Piece::Number(u64::from(node.number)),
+                Piece::Text(b":"),
+                Piece::Text(scope_word(node, found.at.scope)),
+                Piece::Text(b":"),
+                Piece::Number(found.index as u64),
+                Piece::Text(b"`."),
+            ],
+        )
     }
 
     // Adds the lines of the plan by which tags come to the place.
@@ -202,5 +212,13 @@ impl<A: Allocator + Copy> Subject<'_, A> {
             Some(found) => ways.add_match(found.at, found.index),
             None => Ok(()),
         }
+    }
+}
+
+// The word that names the scope of the relay.
+fn scope_word<A: Allocator>(node: &Node<A>, scope: usize) -> &[u8] {
+    match node.relay.scopes.get(scope) {
+        Some(found) if scope > 0 => found.name.as_bytes(),
+        _ => b".",
     }
 }

@@ -2,6 +2,7 @@
 
 use crate::links::Link;
 use crate::notes::Notes;
+use crate::pieces::Piece;
 use crate::warned_plan::WarnedPlan;
 use std::alloc::{AllocError, Allocator};
 
@@ -28,13 +29,20 @@ fn put_host<A: Allocator + Copy>(
     link: &Link<'_, A>,
     notes: &mut Notes<A>,
 ) -> Result<(), AllocError> {
-    let bind = link.source.bind.as_str();
-    let host = link.server.host.as_str();
-    let words = format!(in about.alloc;
-        "a server is to be reached as {host}, and its source listens on {bind} alone, which only its own machine reaches: what is sent to {host} doesn't arrive."
-    )?;
-    let sites = [(link.place, link.server.line), (link.to, link.source.line)];
-    notes.put_at(about, words.as_str(), &sites)
+    let host = link.server.host.as_bytes();
+    notes.put_at(
+        about,
+        &[
+            Piece::Text(b"a server is to be reached as "),
+            Piece::Text(host),
+            Piece::Text(b", and its source listens on "),
+            Piece::Text(link.source.bind.as_bytes()),
+            Piece::Text(b" alone, which only its own machine reaches: what is sent to "),
+            Piece::Text(host),
+            Piece::Text(b" doesn't arrive."),
+        ],
+        &[(link.place, link.server.line), (link.to, link.source.line)],
+    )
 }
 
 // Whether a host is the machine itself, by its text.

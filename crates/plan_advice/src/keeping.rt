@@ -1,6 +1,7 @@
 //! What an output lacks that lets go of events.
 
-use crate::story::put_numbered;
+use crate::pieces::Piece;
+use crate::story::put_line;
 use relay_conf::{BufferKind, BufferSettings, Output, OverflowAction};
 use std::alloc::{AllocError, Allocator};
 
@@ -69,11 +70,15 @@ fn put_lack<A: Allocator + Copy>(
     line: usize,
     lack: &str,
 ) -> Result<(), AllocError> {
-    put_numbered(
+    put_line(
         alloc,
         out,
-        &[b"  The output in line "],
-        line,
-        &[b" lacks ", lack.as_bytes(), b"."],
+        &[
+            Piece::Text(b"  The output in line "),
+            Piece::Number(line as u64),
+            Piece::Text(b" lacks "),
+            Piece::Text(lack.as_bytes()),
+            Piece::Text(b"."),
+        ],
     )
 }

@@ -2,6 +2,7 @@
 
 use crate::links::Link;
 use crate::notes::Notes;
+use crate::pieces::Piece;
 use crate::warned_plan::WarnedPlan;
 use relay_conf::Security;
 use std::alloc::{AllocError, Allocator};
@@ -16,7 +17,7 @@ pub(crate) fn put_keys<A: Allocator + Copy>(
     for link in links {
         if let Some(words) = fault(&link.settings.security, &link.source.security) {
             let sites = [(link.place, link.line), (link.to, link.source.line)];
-            notes.put_at(about, words, &sites)?;
+            notes.put_at(about, &[Piece::Text(words.as_bytes())], &sites)?;
         }
     }
     Ok(())

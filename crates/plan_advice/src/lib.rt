@@ -16,6 +16,7 @@ mod links;
 mod near;
 mod notes;
 mod peeling;
+mod pieces;
 mod search;
 mod shared;
 mod site;

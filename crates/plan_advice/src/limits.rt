@@ -3,6 +3,7 @@
 use crate::flow::{Numbers, Steps, add_of_servers, flow, match_of};
 use crate::links::{Forward, MOST_OUTPUTS};
 use crate::notes::Notes;
+use crate::pieces::Piece;
 use crate::search::Search;
 use crate::warned_plan::WarnedPlan;
 use buffer_state::GREATEST_SIZE;
@@ -166,13 +167,18 @@ fn put_small<A: Allocator + Copy>(
     small: Taking,
     notes: &mut Notes<A>,
 ) -> Result<(), AllocError> {
-    let sent = most_bytes(&forward.settings.buffer);
     let (place, line, taken) = small;
-    let words = format!(in about.alloc;
-        "an output sends chunks of up to {sent} bytes, each as one message, and a buffer that they come to takes {taken} at most: a greater chunk is refused each time, and stays for ever."
-    )?;
-    let sites = [(forward.place, forward.line), (place, line)];
-    notes.put_at(about, words.as_str(), &sites)
+    notes.put_at(
+        about,
+        &[
+            Piece::Text(b"an output sends chunks of up to "),
+            Piece::Number(most_bytes(&forward.settings.buffer)),
+            Piece::Text(b" bytes, each as one message, and a buffer that they come to takes "),
+            Piece::Number(taken),
+            Piece::Text(b" at most: a greater chunk is refused each time, and stays for ever."),
+        ],
+        &[(forward.place, forward.line), (place, line)],
+    )
 }
 
 // The most bytes of events that the buffer sends or takes as one message.

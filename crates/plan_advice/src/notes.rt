@@ -3,6 +3,7 @@
 ghost use Rattle.std.specs.Prelude.{◌≡◌, ℕ, All, IfOk};
 ghost use Rattle.plan_advice.specs.Notes.{AreNotes, IsNote};
 
+use crate::pieces::{Piece, joined};
 use crate::site::Site;
 use crate::warned_plan::WarnedPlan;
 use std::alloc::{AllocError, Allocator};
@@ -42,10 +43,14 @@ impl<A: Allocator + Copy> Notes<A> {
         &self.bytes
     }
 
-    /// Adds a warning's sentence. The only error is want of memory.
-    pub fn put_warning(&mut self, about: &WarnedPlan<'_, A>, text: &str) -> Result<(), AllocError> {
-        let front = format!(in about.alloc; " warning: {text}")?;
-        self.put(about.alloc, front.as_bytes())
+    /// Adds a warning's sentence, of these pieces. The only error is want of memory.
+    pub fn put_warning(
+        &mut self,
+        about: &WarnedPlan<'_, A>,
+        words: &[Piece<'_>],
+    ) -> Result<(), AllocError> {
+        let text = joined(about.alloc, b" warning: ", words)?;
+        self.put(about.alloc, &text)
     }
 
     /// Adds a warning's sentence, and where that is, as `put_place` does: places of relays, and
@@ -53,10 +58,10 @@ impl<A: Allocator + Copy> Notes<A> {
     pub fn put_at(
         &mut self,
         about: &WarnedPlan<'_, A>,
-        text: &str,
+        words: &[Piece<'_>],
         sites: &[(usize, usize)],
     ) -> Result<(), AllocError> {
-        self.put_warning(about, text)?;
+        self.put_warning(about, words)?;
         for (place, line) in sites {
             self.put_place(about, *place, *line)?;
         }
@@ -85,11 +90,18 @@ impl<A: Allocator + Copy> Notes<A> {
 
     // Adds a line of a text: its name, its number, and what stands there.
     fn put_site(&mut self, alloc: A, site: &Site<'_>) -> Result<(), AllocError> {
-        let name = site.name;
-        let line = site.line;
-        let front = format!(in alloc; "   {name}, line {line}: ")?;
-        let mut text = front.into_bytes();
-        text.extend_from_slice(site.line_text(alloc)?)?;
+        let shown = site.line_text(alloc)?;
+        let text = joined(
+            alloc,
+            b"   ",
+            &[
+                Piece::Text(site.name.as_bytes()),
+                Piece::Text(b", line "),
+                Piece::Number(site.line as u64),
+                Piece::Text(b": "),
+                Piece::Text(shown),
+            ],
+        )?;
         self.put(alloc, &text)
     }
 

@@ -3,6 +3,7 @@
 use crate::flow::Numbers;
 use crate::links::Link;
 use crate::notes::Notes;
+use crate::pieces::Piece;
 use crate::warned_plan::WarnedPlan;
 use std::alloc::{AllocError, Allocator};
 use std::collections::BTreeMap;
@@ -124,11 +125,17 @@ fn put_name<A: Allocator + Copy>(
     places: &[usize],
     notes: &mut Notes<A>,
 ) -> Result<(), AllocError> {
-    let count = places.len();
-    let words = format!(in about.alloc;
-        "{count} relays have one configuration, {name}, and an output has but some of them as its servers: where they aren't meant to be alike, a line of the plan names the wrong file."
+    notes.put_warning(
+        about,
+        &[
+            Piece::Number(places.len() as u64),
+            Piece::Text(b" relays have one configuration, "),
+            Piece::Text(name.as_bytes()),
+            Piece::Text(
+                b", and an output has but some of them as its servers: where they aren't meant to be alike, a line of the plan names the wrong file.",
+            ),
+        ],
     )?;
-    notes.put_warning(about, words.as_str())?;
     for place in places.iter().take(MOST_SHOWN) {
         if let Some(relay) = about.plan.relay_lines().get(*place) {
             notes.put_plan_line(about, relay.line)?;

@@ -2,6 +2,7 @@
 
 use crate::flow::{match_of, meet};
 use crate::notes::Notes;
+use crate::pieces::Piece;
 use crate::warned_plan::WarnedPlan;
 use loss_rules::Reach;
 use plan_lines::Plan;
@@ -37,8 +38,8 @@ fn put_reach<A: Allocator + Copy>(
     notes: &mut Notes<A>,
 ) -> Result<(), AllocError> {
     let words =
-        "no event goes by this line: it has no tag in common with its match. Take it out, or write it as the configurations ask for.";
-    notes.put_warning(about, words)?;
+        b"no event goes by this line: it has no tag in common with its match. Take it out, or write it as the configurations ask for.";
+    notes.put_warning(about, &[Piece::Text(words)])?;
     notes.put_plan_line(about, reach.line)?;
     match match_of(about.plan, reach) {
         Some(found) => notes.put_place(about, reach.place, found.line),

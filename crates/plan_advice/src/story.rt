@@ -1,5 +1,6 @@
 //! Steps as lines of a text, with what some of them mean in front.
 
+use crate::pieces::{Piece, put_pieces};
 use crate::site::Texts;
 use loss_rules::line_of;
 use loss_search::put_step;
@@ -119,12 +120,14 @@ impl<A: Allocator + Copy> Story<'_, A> {
     }
 
     fn put_restart(&self, out: &mut Vec<u8, A>, relay: u64) -> Result<(), AllocError> {
-        put_numbered(
+        put_line(
             self.alloc,
             out,
-            &[b"Relay "],
-            relay as usize,
-            &[b" stops and starts again: what its buffers in memory held is gone."],
+            &[
+                Piece::Text(b"Relay "),
+                Piece::Number(relay),
+                Piece::Text(b" stops and starts again: what its buffers in memory held is gone."),
+            ],
         )
     }
 
@@ -148,20 +151,25 @@ impl<A: Allocator + Copy> Story<'_, A> {
     }
 
     // Adds these words around a line of the text with this name.
-    fn put_of_line(
+    fn put_of_line<'p>(
         &self,
         out: &mut Vec<u8, A>,
-        front: &[u8],
+        front: &'p [u8],
         line: usize,
-        name: &str,
-        end: &[u8],
+        name: &'p str,
+        end: &'p [u8],
     ) -> Result<(), AllocError> {
-        put_numbered(
+        put_line(
             self.alloc,
             out,
-            &[front, b" in line "],
-            line,
-            &[b" of ", name.as_bytes(), end],
+            &[
+                Piece::Text(front),
+                Piece::Text(b" in line "),
+                Piece::Number(line as u64),
+                Piece::Text(b" of "),
+                Piece::Text(name.as_bytes()),
+                Piece::Text(end),
+            ],
         )
     }
 
@@ -204,49 +212,25 @@ pub(crate) fn put_note<A: Allocator>(out: &mut Vec<u8, A>, note: &[u8]) -> Resul
     put_joined(out, &[note])
 }
 
-/// Adds a line that says nothing to the machine, of these pieces.
+/// Adds a line that says nothing to the machine, of these texts.
 pub(crate) fn put_joined<A: Allocator>(
     out: &mut Vec<u8, A>,
-    pieces: &[&[u8]],
+    texts: &[&[u8]],
 ) -> Result<(), AllocError> {
     out.extend_from_slice(b"# ")?;
-    put_end(out, pieces)
-}
-
-/// Adds a line that says nothing to the machine, of these pieces around a number.
-pub(crate) fn put_numbered<A: Allocator + Copy>(
-    alloc: A,
-    out: &mut Vec<u8, A>,
-    front: &[&[u8]],
-    number: usize,
-    end: &[&[u8]],
-) -> Result<(), AllocError> {
-    out.extend_from_slice(b"# ")?;
-    put_pieces(out, front)?;
-    put_number(alloc, out, number)?;
-    put_end(out, end)
-}
-
-// Adds these pieces, and the end of their line.
-fn put_end<A: Allocator>(out: &mut Vec<u8, A>, pieces: &[&[u8]]) -> Result<(), AllocError> {
-    put_pieces(out, pieces)?;
+    for text in texts {
+        out.extend_from_slice(text)?;
+    }
     out.extend_from_slice(b"\n")
 }
 
-// Adds these pieces.
-fn put_pieces<A: Allocator>(out: &mut Vec<u8, A>, pieces: &[&[u8]]) -> Result<(), AllocError> {
-    for piece in pieces {
-        out.extend_from_slice(piece)?;
-    }
-    Ok(())
-}
-
-// Adds the number.
-fn put_number<A: Allocator + Copy>(
+/// Adds a line that says nothing to the machine, of these pieces.
+pub(crate) fn put_line<A: Allocator + Copy>(
     alloc: A,
     out: &mut Vec<u8, A>,
-    number: usize,
+    pieces: &[Piece<'_>],
 ) -> Result<(), AllocError> {
-    let text = format!(in alloc; "{number}")?;
-    out.extend_from_slice(text.as_bytes())
+    out.extend_from_slice(b"# ")?;
+    put_pieces(alloc, out, pieces)?;
+    out.extend_from_slice(b"\n")
 }

@@ -2,6 +2,7 @@
 
 use crate::links::Forward;
 use crate::notes::Notes;
+use crate::pieces::Piece;
 use crate::warned_plan::WarnedPlan;
 use std::alloc::{AllocError, Allocator};
 
@@ -30,9 +31,15 @@ fn put_wait<A: Allocator + Copy>(
     forward: &Forward<'_, A>,
     notes: &mut Notes<A>,
 ) -> Result<(), AllocError> {
-    let seconds = forward.settings.ack_response_timeout;
-    let words = format!(in about.alloc;
-        "a server that takes a connection and doesn't answer holds each chunk of this output for {seconds} seconds (ack_response_timeout), and no other server is tried."
-    )?;
-    notes.put_at(about, words.as_str(), &[(forward.place, forward.line)])
+    notes.put_at(
+        about,
+        &[
+            Piece::Text(
+                b"a server that takes a connection and doesn't answer holds each chunk of this output for ",
+            ),
+            Piece::Number(forward.settings.ack_response_timeout),
+            Piece::Text(b" seconds (ack_response_timeout), and no other server is tried."),
+        ],
+        &[(forward.place, forward.line)],
+    )
 }

@@ -59,15 +59,21 @@ impl<'a, A: Allocator + Copy> Ways<'a, A> {
 
     /// The lines, nearer ones first: some where there are many.
     pub fn into_lines(mut self) -> Result<Vec<usize, A>, AllocError> {
+        self.go_back()?;
+        Ok(self.lines)
+    }
+
+    // Adds what leads to one scope after another.
+    fn go_back(&mut self) -> Result<(), AllocError> {
         for next in 0..MOST_LINES {
             let Some(here) = self.scopes.get(next).copied() else {
-                return Ok(self.lines);
+                return Ok(());
             };
             self.add_labels(here)?;
             self.add_clients(here)?;
             self.add_reaches(here)?;
         }
-        Ok(self.lines)
+        Ok(())
     }
 
     // Adds the lines of the scope's labels.
