@@ -1,34 +1,23 @@
-//! A loop with clients on sockets, turned by hand.
+//! A loop with two clients on sockets, turned by hand, and what is left of its deliveries beside
+//! the books of its buffers.
 
-use crate::parts::{Part, in_memory};
-use crate::relays::{SINK, SMALL, relay_of};
-use crate::turned::{ended, goes_on};
-use disk_files::Dir;
-use loop_core::Folders;
+use crate::talks::{APART, IN_TURN, Round, Talk};
+use ack_receipt::{SharedBuffer, Stub};
+use disk_files::{Dir, MemoryDir};
+use loop_core::{Folders, MemoryFolders};
 use mio_relay::{Ended, InLoop};
+use relay_conf::Relay;
 use relay_sockets::Network;
 use std::alloc::Global;
 use std::io::{ErrorKind, Read, Write};
 use std::net::{Ipv4Addr, Net, OpenStream, SocketAddr, TcpStream};
 use std::random::RandomSource;
-use std::sync::Wait;
+use std::sync::atomic::AtomicBool;
+use std::sync::{Arc, Wait};
 use std::time::{Clock, Duration};
 
-pub const TAG: &[u8] = b"a";
-
-// A time and an empty record.
-pub const ENTRY: &[u8] = b"\x92\x01\x80";
-
-// The tag, the entry, and a chunk.
-pub const MESSAGE: &[u8] = b"\x94\xa1\x61\x01\x80\x81\xa5chunk\xa2c1";
-
-// The tag `b`, one entry, and another chunk.
-const OTHER: &[u8] = b"\x94\xa1\x62\x01\x80\x81\xa5chunk\xa2c2";
-
-pub const ANSWER: &[u8] = b"\x81\xa3ack\xa2c1";
-
 // A client of the loop's only source.
-pub fn client<R: Net, N: Network + Drop, D: Dir + Drop>(
+fn client<R: Net, N: Network + Drop, D: Dir + Drop>(
     rt: &R,
     turning: &InLoop<N, D, Global>,
 ) -> Option<R::Stream> {
@@ -54,12 +43,12 @@ fn client_at<R: Net>(rt: &R, port: u16) -> Option<R::Stream> {
 }
 
 // Twenty turns, or those up to a fault: whether there is none.
-pub fn turns<R: Wait, N: Network + Drop, D: Dir + Drop>(
+fn turns<R: Wait, N: Network + Drop, D: Dir + Drop>(
     rt: &R,
     turning: &mut InLoop<N, D, Global>,
 ) -> bool {
     for _ in 0..20u32 {
-        if !goes_on(rt, turning) {
+        if turning.fault().is_some() || turning.turn(rt).is_err() {
             return false;
         }
     }
@@ -81,7 +70,7 @@ fn is_silent<S: Read>(stream: &mut S) -> bool {
 }
 
 // Whether these bytes come, and no others.
-pub fn hears<S: Read>(stream: &mut S, wanted: &[u8]) -> bool {
+fn hears<S: Read>(stream: &mut S, wanted: &[u8]) -> bool {
     for byte in wanted {
         if !hears_byte(stream, *byte) {
             return false;
@@ -90,100 +79,13 @@ pub fn hears<S: Read>(stream: &mut S, wanted: &[u8]) -> bool {
     is_silent(stream)
 }
 
-// Three of the messages in one write, and three of the answers.
-const THREE: &[u8] =
-    b"\x94\xa1\x61\x01\x80\x81\xa5chunk\xa2c1\x94\xa1\x61\x01\x80\x81\xa5chunk\xa2c1\x94\xa1\x61\x01\x80\x81\xa5chunk\xa2c1";
-
-const OTHER_THREE: &[u8] =
-    b"\x94\xa1\x62\x01\x80\x81\xa5chunk\xa2c2\x94\xa1\x62\x01\x80\x81\xa5chunk\xa2c2\x94\xa1\x62\x01\x80\x81\xa5chunk\xa2c2";
-
-const ANSWERS: &[u8] = b"\x81\xa3ack\xa2c1\x81\xa3ack\xa2c1\x81\xa3ack\xa2c1";
-
-const OTHER_ANSWERS: &[u8] = b"\x81\xa3ack\xa2c2\x81\xa3ack\xa2c2\x81\xa3ack\xa2c2";
-
-// Whether each of two clients, who send three messages, hears three answers, its own.
-fn speak_apart<R, N, D, S>(
-    rt: &R,
-    turning: &mut InLoop<N, D, Global>,
-    one: &mut S,
-    two: &mut S,
-) -> bool
-where
-    R: Wait,
-    N: Network + Drop,
-    D: Dir + Drop,
-    S: Read + Write,
-{
-    one.write_all(THREE).is_ok()
-        && two.write_all(OTHER_THREE).is_ok()
-        && turns(rt, turning)
-        && hears(one, ANSWERS)
-        && hears(two, OTHER_ANSWERS)
-}
-
-// Whether these are what is left of six deliveries, of a part each, and the loop ended without a
-// fault.
-fn are_of_six(left: &Ended<Global>) -> bool {
-    let all = left.stubs().iter().all(|stub| stub.parts.len() == 1);
-    left.stubs().len() == 6 && all && left.fault().is_none()
-}
-
-// Writes this message, which the loop takes in: whether that went well.
-fn says<R: Wait, N: Network + Drop, D: Dir + Drop, S: Write>(
-    rt: &R,
-    turning: &mut InLoop<N, D, Global>,
-    stream: &mut S,
-    message: &[u8],
-) -> bool {
-    stream.write_all(message).is_ok() && turns(rt, turning)
-}
-
-// Whether the first client hears its answer, and nothing more once the second one has written, which
-// hears nothing.
-fn speak_in_turn<R, N, D, S>(
-    rt: &R,
-    turning: &mut InLoop<N, D, Global>,
-    one: &mut S,
-    two: &mut S,
-) -> bool
-where
-    R: Wait,
-    N: Network + Drop,
-    D: Dir + Drop,
-    S: Read + Write,
-{
-    says(rt, turning, one, MESSAGE)
-        && hears(one, ANSWER)
-        && says(rt, turning, two, OTHER)
-        && is_silent(one)
-        && is_silent(two)
-}
-
-// Whether these are what is left of two deliveries, the first of a part and the second of none, and
-// the loop ended without a fault.
-fn are_of_one_part(left: &Ended<Global>) -> bool {
-    match left.stubs() {
-        [one, two] => left.fault().is_none() && one.parts.len() == 1 && two.parts.is_empty(),
-        _ => false,
-    }
-}
-
-// How two clients speak to a loop.
-#[derive(Clone, Copy)]
-enum Talk {
-    // Each sends three messages of its own, at once.
-    Apart,
-    // The second one speaks once the first one was answered, and the buffer is full.
-    InTurn,
-}
-
-// Whether two clients hear what they should.
+// Whether both clients hear what they should in this round.
 fn hear<R, N, D, S>(
     rt: &R,
     turning: &mut InLoop<N, D, Global>,
     one: &mut S,
     two: &mut S,
-    how: Talk,
+    round: &Round,
 ) -> bool
 where
     R: Wait,
@@ -191,10 +93,33 @@ where
     D: Dir + Drop,
     S: Read + Write,
 {
-    match how {
-        Talk::Apart => speak_apart(rt, turning, one, two),
-        Talk::InTurn => speak_in_turn(rt, turning, one, two),
+    one.write_all(round.one.written).is_ok()
+        && two.write_all(round.two.written).is_ok()
+        && turns(rt, turning)
+        && hears(one, round.one.heard)
+        && hears(two, round.two.heard)
+}
+
+// The same in each of these rounds.
+fn hear_all<R, N, D, S>(
+    rt: &R,
+    turning: &mut InLoop<N, D, Global>,
+    one: &mut S,
+    two: &mut S,
+    rounds: &[Round],
+) -> bool
+where
+    R: Wait,
+    N: Network + Drop,
+    D: Dir + Drop,
+    S: Read + Write,
+{
+    for round in rounds {
+        if !hear(rt, turning, one, two, round) {
+            return false;
+        }
     }
+    true
 }
 
 // The same of this client and another one.
@@ -202,7 +127,7 @@ fn talk_with_another<R, N, D>(
     rt: &R,
     turning: &mut InLoop<N, D, Global>,
     one: &mut R::Stream,
-    how: Talk,
+    rounds: &[Round],
 ) -> bool
 where
     R: Wait + Net,
@@ -210,27 +135,93 @@ where
     D: Dir + Drop,
 {
     match client(rt, turning) {
-        Some(mut two) => hear(rt, turning, one, &mut two, how),
+        Some(mut two) => hear_all(rt, turning, one, &mut two, rounds),
         None => false,
     }
 }
 
 // The same of two clients.
-fn both_talk<R, N, D>(rt: &R, turning: &mut InLoop<N, D, Global>, how: Talk) -> bool
+fn both_talk<R, N, D>(rt: &R, turning: &mut InLoop<N, D, Global>, rounds: &[Round]) -> bool
 where
     R: Wait + Net,
     N: Network + Drop,
     D: Dir + Drop,
 {
     match client(rt, turning) {
-        Some(mut one) => talk_with_another(rt, turning, &mut one, how),
+        Some(mut one) => talk_with_another(rt, turning, &mut one, rounds),
         None => false,
     }
 }
 
-// Whether two clients of this loop hear what they should, and so is what is left of their
-// deliveries.
-fn ends<R, N, D>(rt: &R, turning: InLoop<N, D, Global>, how: Talk) -> bool
+// The loop's buffers, for a look into their books once it has ended.
+fn shelves_of<N: Network + Drop, D: Dir + Drop>(
+    alloc: Global,
+    turning: &InLoop<N, D, Global>,
+) -> Option<Vec<Arc<SharedBuffer<D, Global>>>> {
+    let mut shelves = Vec::new(alloc);
+    for shelf in turning.buffers() {
+        let Ok(shelf) = Arc::try_clone(shelf) else {
+            return None;
+        };
+        if shelves.push(shelf).is_err() {
+            return None;
+        }
+    }
+    Some(shelves)
+}
+
+// Whether the book of this buffer, which nobody else has, accounts for what is left of deliveries.
+fn is_accounted<D: Dir + Drop>(
+    alloc: Global,
+    shelf: Arc<SharedBuffer<D, Global>>,
+    stubs: &[Stub<Global>],
+) -> bool {
+    match Arc::into_inner(shelf) {
+        Some(shelf) => {
+            let closed = shelf.close();
+            let is_accounted = closed.audit(alloc, stubs).is_ok();
+            drop(closed.into_dir());
+            is_accounted
+        }
+        None => false,
+    }
+}
+
+// The same of the books of all these buffers.
+fn are_accounted<D: Dir + Drop>(
+    alloc: Global,
+    shelves: Vec<Arc<SharedBuffer<D, Global>>>,
+    stubs: &[Stub<Global>],
+) -> bool {
+    let mut all = true;
+    for shelf in shelves {
+        all = is_accounted(alloc, shelf, stubs) && all;
+    }
+    all
+}
+
+// Whether these are what is left of as many deliveries, of so many parts each.
+fn have_parts(stubs: &[Stub<Global>], parts: &[usize]) -> bool {
+    for (stub, count) in stubs.iter().zip(parts) {
+        if stub.parts.len() != *count {
+            return false;
+        }
+    }
+    stubs.len() == parts.len()
+}
+
+// Ends a loop.
+fn ended<R: Wait, N: Network + Drop, D: Dir + Drop>(
+    rt: &R,
+    turning: InLoop<N, D, Global>,
+) -> Ended<Global> {
+    let stop = AtomicBool::new(true);
+    turning.run(rt, &stop)
+}
+
+// Whether two clients of this loop hear what they should, and what is left of their deliveries has
+// the parts that it should, for which the books of the loop's buffers account.
+fn ends<R, N, D>(rt: &R, alloc: Global, turning: InLoop<N, D, Global>, talk: &Talk) -> bool
 where
     R: Wait + Net,
     N: Network + Drop,
@@ -238,58 +229,63 @@ where
 {
     let mut turning = turning;
     turning.keep_stubs();
-    let is_heard = both_talk(rt, &mut turning, how);
+    let is_heard = both_talk(rt, &mut turning, talk.rounds);
+    let shelves = shelves_of(alloc, &turning);
     let left = ended(rt, turning);
-    is_heard
-        && match how {
-            Talk::Apart => are_of_six(&left),
-            Talk::InTurn => are_of_one_part(&left),
-        }
+    let is_accounted = match shelves {
+        Some(shelves) => are_accounted(alloc, shelves, left.stubs()),
+        None => false,
+    };
+    is_heard && is_accounted && left.fault().is_none() && have_parts(left.stubs(), talk.parts)
 }
 
-// The same of a loop of this text, with buffers in these folders.
-fn is_heard<R, D, F>(rt: &R, folders: &F, text: &str, how: Talk) -> bool
+// The relay that the text describes; each of its sources takes any port that is free.
+fn relay_of(alloc: Global, text: &str) -> Option<Relay<Global>> {
+    let Ok(elements) = conf_text::read(alloc, text.as_bytes()) else {
+        return None;
+    };
+    match Relay::read(alloc, &elements) {
+        Ok(mut relay) => {
+            for source in relay.sources.iter_mut() {
+                source.port = 0;
+            }
+            Some(relay)
+        }
+        Err(_) => None,
+    }
+}
+
+// The same of a loop of the talk's relay, with buffers in these folders.
+fn is_right<R, D, F>(rt: &R, folders: &F, talk: &Talk) -> bool
 where
     R: Wait + Clock + Net + RandomSource + AllocGlobal + Clone + Drop,
     D: Dir + Drop,
     F: Folders<D, Global>,
 {
-    let Some(relay) = relay_of(rt.alloc(), text) else {
+    let Some(relay) = relay_of(rt.alloc(), talk.relay) else {
         return false;
     };
     match InLoop::open_in(rt, rt.alloc(), relay, 1, folders) {
-        Ok(turning) => ends(rt, turning, how),
+        Ok(turning) => ends(rt, rt.alloc(), turning, talk),
         Err(_) => false,
     }
 }
 
-/// Whether two clients that ask for their own chunks, each three times in one write, hear three
-/// answers, each its own.
-pub fn is_heard_apart<R, D, F>(rt: &R, folders: &F) -> bool
+// The same with buffers in memory, in the one function that names their folders.
+fn is_right_in_memory<R>(rt: &R, talk: &Talk) -> bool
 where
     R: Wait + Clock + Net + RandomSource + AllocGlobal + Clone + Drop,
-    D: Dir + Drop,
-    F: Folders<D, Global>,
 {
-    is_heard::<R, D, F>(rt, folders, SINK, Talk::Apart)
+    let folders = MemoryFolders { alloc: rt.alloc() };
+    is_right::<R, MemoryDir<Global>, MemoryFolders<Global>>(rt, &folders, talk)
 }
 
 #[test]
-fn each_client_hears_its_own_answers(rt: HostRuntime) {
-    assert!(rt; in_memory(&rt, Part::Clients));
-}
-
-/// Whether what a full buffer refuses isn't answered, and its connection stays.
-pub fn is_heard_in_turn<R, D, F>(rt: &R, folders: &F) -> bool
-where
-    R: Wait + Clock + Net + RandomSource + AllocGlobal + Clone + Drop,
-    D: Dir + Drop,
-    F: Folders<D, Global>,
-{
-    is_heard::<R, D, F>(rt, folders, SMALL, Talk::InTurn)
+fn books_account_for_two_clients(rt: HostRuntime) {
+    assert!(rt; is_right_in_memory(&rt, &APART));
 }
 
 #[test]
-fn a_full_buffer_refuses(rt: HostRuntime) {
-    assert!(rt; in_memory(&rt, Part::Full));
+fn books_account_behind_a_full_buffer(rt: HostRuntime) {
+    assert!(rt; is_right_in_memory(&rt, &IN_TURN));
 }
