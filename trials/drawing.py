@@ -1,7 +1,7 @@
 """Random networks of relays, and where events go in them, by docs/CONFIGURATION.md and not by the program."""
 import random
 from client import binary, chunk_id, event_time, number, spelled, table, text
-from house import away, buffer, copy, free_port, label, match, security, source, to_file, to_servers
+from house import away, buffer, copy, label, match, security, source, to_file, to_servers
 
 WORDS = ["a", "b", "c"]
 PREFIXES = [None, None, "a", "b.c", "site-1"]
@@ -161,7 +161,7 @@ class Network:
         self.draw = random.Random(seed)
         self.has_kills = seed % 3 == 0
         self.hosts = [self.host(), self.host()]
-        self.gone, self.paths = [], 0
+        self.held, self.gone, self.paths = [], [], 0
         self.limit = self.draw.choice([[], ["chunk_limit_size 600"]])
         self.relays = [self.relay(place) for place in range(self.draw.randint(2, 4))]
         for place, relay in enumerate(self.relays):
@@ -177,19 +177,18 @@ class Network:
         made.scopes = {scope: [] for scope in (None, "@L0", "@L1", "@L2")[: self.draw.randint(1, 4)]}
         for _ in range(self.draw.randint(1, 3)):
             scope = self.draw.choice(list(made.scopes))
-            made.sources.append(Source(self.draw, made, self.taken(), scope))
+            made.sources.append(Source(self.draw, made, self.address(self.held), scope))
         return made
 
-    def taken(self):
-        """An address for a relay, which nobody else gets."""
-        host = self.draw.choice(self.hosts)
-        return host, free_port(host)
-
-    def address(self):
-        """One where nobody listens, to the end."""
+    def address(self, kept):
         found, held = away(self.draw.choice(self.hosts))
-        self.gone.append(held)
+        kept.append(held)
         return found
+
+    def release(self):
+        """Lets go the ports of the relays; those where nobody listens stay held to the end."""
+        for held in self.held:
+            held.close()
 
     def end(self):
         for held in self.gone:
@@ -238,7 +237,7 @@ class Network:
         others = [each for each in later if each.key == first.key and each is not first]
         found = [first, *self.draw.sample(others, min(len(others), self.draw.choice([0, 0, 1])))]
         absent = self.draw.choice([0, 1, 1, 3 - len(found)])
-        found += [Nobody(self.address()) for _ in range(absent)]
+        found += [Nobody(self.address(self.gone)) for _ in range(absent)]
         self.draw.shuffle(found)
         return found
 
